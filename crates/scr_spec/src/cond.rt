@@ -1,0 +1,48 @@
+//! Sides and conditions over the variables of a specification.
+//!
+//! Variables, constants and types go by their numbers, in order of declaration from 0.
+
+use scr_text::Relation;
+use sqlite_items::{Boxed, Items};
+
+/// Whose list a label stands in: that of a type, or the modes of a class.
+#[derive(Clone, Copy, Debug, PartialEq, Eq)]
+pub enum Owner {
+    Named(usize),
+    Class(usize),
+}
+
+/// What an item multiplies. A primed variable is read in the new state.
+#[derive(Clone, Copy, Debug, PartialEq, Eq)]
+pub enum Operand {
+    One,
+    Truth(bool),
+    Constant(usize),
+    Label(Owner, i64),
+    Variable(usize),
+    Primed(usize),
+}
+
+/// A factor times an operand.
+#[derive(Clone, Copy, Debug, PartialEq, Eq)]
+pub struct Item {
+    pub factor: i64,
+    pub operand: Operand,
+}
+
+/// A side: the sum of its items.
+#[derive(Debug, Drop)]
+pub struct Expr {
+    pub items: Items<Item>,
+}
+
+/// A condition. `Holds` names a Boolean variable; `And` and `Or` have at least two members.
+#[derive(Debug, Drop)]
+pub enum Cond {
+    Truth(bool),
+    Holds(usize),
+    Compare(Expr, Relation, Expr),
+    Not(Boxed<Cond>),
+    And(Items<Cond>),
+    Or(Items<Cond>),
+}

@@ -1,0 +1,12 @@
+//! What a specification is: its types, and the definitions that every layer rests on.
+#![tactic(auto)]
+
+mod cond;
+mod spec;
+mod state;
+mod table;
+
+pub use cond::{Cond, Expr, Item, Operand, Owner};
+pub use spec::{Constant, Domain, Kind, Role, Shape, Spec, TypeDef, Variable};
+pub use state::{Input, State};
+pub use table::{Cell, Change, Event, Heading, Primitive, Row, Table};

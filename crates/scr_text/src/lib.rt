@@ -1,0 +1,10 @@
+//! Lines of a text, their tokens, and decimal numbers.
+#![tactic(auto)]
+
+mod memory;
+mod name;
+mod word;
+
+pub use memory::NoMemory;
+pub use name::Name;
+pub use word::{Keyword, Relation, Sign, Token, Word};

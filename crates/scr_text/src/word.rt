@@ -1,0 +1,90 @@
+//! The words that a line is made of.
+
+use crate::Name;
+
+/// How two sides of a comparison are compared.
+#[derive(Clone, Copy, Debug, PartialEq, Eq)]
+pub enum Relation {
+    Equal,
+    Differ,
+    Less,
+    AtMost,
+    Greater,
+    AtLeast,
+}
+
+/// The reserved words, in the order in which the language lists them. `TypeWord` is `TYPE`.
+#[derive(Clone, Copy, Debug, PartialEq, Eq)]
+pub enum Keyword {
+    Specification,
+    TypeWord,
+    Const,
+    Monitored,
+    ModeClass,
+    Term,
+    Controlled,
+    Init,
+    Condition,
+    Event,
+    Modes,
+    Over,
+    Row,
+    Values,
+    From,
+    To,
+    End,
+    Finish,
+    And,
+    Or,
+    Not,
+    True,
+    False,
+    When,
+    Never,
+    Boolean,
+    Nat,
+    Step,
+    Assert,
+}
+
+/// The signs `@T @F @C ( ) { } , : | = != < <= > >= + - * ..`, in this order.
+#[derive(Clone, Copy, Debug, PartialEq, Eq)]
+pub enum Sign {
+    AtT,
+    AtF,
+    AtC,
+    OpenParen,
+    CloseParen,
+    OpenBrace,
+    CloseBrace,
+    Comma,
+    Colon,
+    Bar,
+    Equal,
+    Differ,
+    Less,
+    AtMost,
+    Greater,
+    AtLeast,
+    Plus,
+    Minus,
+    Times,
+    Dots,
+}
+
+/// A word of a line. A number is at most 1,000,000 in a line that is not refused.
+#[derive(Debug, Drop)]
+pub enum Word {
+    Name(Name),
+    Primed(Name),
+    Number(i64),
+    Reserved(Keyword),
+    Sign(Sign),
+}
+
+/// A word, and the place of its first byte in the line, from 0.
+#[derive(Debug, Drop)]
+pub struct Token {
+    pub column: u32,
+    pub word: Word,
+}
