@@ -1,4 +1,5 @@
 //! A specification.
+ghost use Rattle.scr_spec.specs.Sound.{IsSound};
 
 use crate::table::Table;
 use scr_text::Name;
@@ -59,7 +60,7 @@ pub struct Variable {
     pub bound: Option<i64>,
 }
 
-/// A specification: what a text spells.
+/// A specification: what a text spells. Its type keeps the rules of `IsSound`.
 #[derive(Debug, Drop)]
 pub struct Spec {
     pub name: Name,
@@ -67,4 +68,5 @@ pub struct Spec {
     pub constants: Items<Constant>,
     pub variables: Items<Variable>,
     pub tables: Items<Table>,
+    pub ghost sound: { IsSound (record { name = name; types = types; constants = constants; variables = variables; tables = tables }) },
 }

@@ -1,0 +1,67 @@
+-- The sides and conditions that are over a specification, and the bound of a side.
+use Rattle.std.specs.Prelude.{ℕ, ◌*◌, max, unsigned_abs, Bool, true, ◌&&◌, nat_lt, nat_le, length, sum_by}
+use Rattle.std.specs.List.{list_all}
+use Rattle.scr_spec.specs.Data.{Data}
+use Rattle.scr_spec.specs.declared.spec.Domain.{Domain}
+use Rattle.scr_spec.specs.declared.cond.Operand.{Operand}
+use Rattle.scr_spec.specs.declared.cond.Operand.TheVariants.{One, Truth as Flag, Constant, Label, Variable as Read, Primed}
+use Rattle.scr_spec.specs.declared.cond.Item.{Item}
+use Rattle.scr_spec.specs.declared.cond.Expr.{Expr}
+use Rattle.scr_spec.specs.declared.cond.Cond.{Cond, fold-Cond}
+use Rattle.scr_spec.specs.declared.cond.Cond.TheOpen.{Cond-F, Truth, Holds, Compare, Not, And, Or}
+use Rattle.scr_spec.specs.Domains.{domain_of}
+use Rattle.scr_spec.specs.Meaning.{constant_value}
+
+-- the greatest absolute value in a domain
+abbrev pub domain_bound : Domain → ℕ
+domain_bound d = max (unsigned_abs d.lo) (unsigned_abs d.hi)
+
+-- the greatest absolute code of a variable
+abbrev pub variable_bound : Data → ℕ → ℕ
+variable_bound spec v = domain_bound (domain_of spec v)
+
+-- the greatest absolute value of an operand
+abbrev pub operand_bound : Data → Operand → ℕ
+operand_bound spec One = 1
+operand_bound spec (Flag b) = 1
+operand_bound spec (Constant k) = unsigned_abs (constant_value spec k)
+operand_bound spec (Label owner code) = unsigned_abs code
+operand_bound spec (Read v) = variable_bound spec v
+operand_bound spec (Primed v) = variable_bound spec v
+
+abbrev pub item_bound : Data → Item → ℕ
+item_bound spec item = unsigned_abs item.factor * operand_bound spec item.operand
+
+-- the sum of the absolute factors times the bounds of the operands
+abbrev pub side_bound : Data → Expr → ℕ
+side_bound spec e = sum_by (item_bound spec) e.items
+
+-- each variable and constant is one of the specification
+abbrev pub is_operand_over : Data → Operand → Bool
+is_operand_over spec One = true
+is_operand_over spec (Flag b) = true
+is_operand_over spec (Constant k) = nat_lt k (length spec.constants)
+is_operand_over spec (Label owner code) = true
+is_operand_over spec (Read v) = nat_lt v (length spec.variables)
+is_operand_over spec (Primed v) = nat_lt v (length spec.variables)
+
+-- its factor is from -1,000,000 to 1,000,000
+abbrev pub is_item_over : Data → Item → Bool
+is_item_over spec item = is_operand_over spec item.operand && nat_le (unsigned_abs item.factor) 1000000
+
+-- its items are, and its bound is at most 2,000,000,000
+abbrev pub is_side_over : Data → Expr → Bool
+is_side_over spec e = list_all (is_item_over spec) e.items && nat_le (side_bound spec e) 2000000000
+
+-- from the tests of the parts
+abbrev pub over_step : Data → Cond-F Bool → Bool
+over_step spec (Truth b) = true
+over_step spec (Holds v) = nat_lt v (length spec.variables)
+over_step spec (Compare l r m) = is_side_over spec l && is_side_over spec m
+over_step spec (Not t) = t
+over_step spec (And ts) = list_all (λ t. t) ts
+over_step spec (Or ts) = list_all (λ t. t) ts
+
+-- each variable and each side of the condition is one over the specification
+abbrev pub is_cond_over : Data → Cond → Bool
+is_cond_over spec c = fold-Cond Bool (over_step spec) c
