@@ -1,5 +1,5 @@
 -- Conditions. OR binds loosest, then AND, then NOT; parentheses leave no trace but the nesting.
-use Rattle.std.specs.Prelude.{◌≡◌, ℕ, Bool, List, [], ◌∷◌}
+use Rattle.std.specs.Prelude.{Bool, List, [], ◌∷◌}
 use Rattle.scr_text.specs.declared.word.Relation.{Relation}
 use Rattle.scr_text.specs.declared.word.Word.{Word}
 use Rattle.scr_text.specs.declared.word.Word.TheVariants as w

@@ -1,5 +1,5 @@
 -- Events and cells.
-use Rattle.std.specs.Prelude.{ℕ, Bool, true, false, List, [], ◌∷◌, Option, Some, None}
+use Rattle.std.specs.Prelude.{ℕ, true, false, List, [], ◌∷◌, Option, Some, None}
 use Rattle.scr_text.specs.declared.word.Word.{Word}
 use Rattle.scr_text.specs.declared.word.Word.TheVariants as w
 use Rattle.scr_text.specs.declared.word.Sign.TheVariants as s

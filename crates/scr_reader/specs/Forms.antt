@@ -4,7 +4,6 @@ use Rattle.scr_text.specs.declared.word.Word.{Word}
 use Rattle.scr_text.specs.declared.word.Word.TheVariants as w
 use Rattle.scr_text.specs.declared.word.Sign.TheVariants as s
 use Rattle.scr_text.specs.declared.word.Keyword.TheVariants as k
-use Rattle.scr_spec.specs.declared.spec.Role.{Role}
 use Rattle.scr_spec.specs.declared.spec.Role.TheVariants as role
 use Rattle.scr_spec.specs.declared.table.Heading.{Heading}
 use Rattle.scr_spec.specs.declared.table.Heading.TheVariants as h

@@ -3,9 +3,7 @@ use Rattle.std.specs.Prelude.{ℕ, suc, ◌+◌, ◌-◌, ℤ, pos, ◌-ℤ◌, 
 use Rattle.std.specs.List.{list_all}
 use Rattle.scr_text.specs.declared.word.Word.{Word}
 use Rattle.scr_text.specs.declared.word.Word.TheVariants as w
-use Rattle.scr_text.specs.declared.word.Sign.{Sign}
 use Rattle.scr_text.specs.declared.word.Sign.TheVariants as s
-use Rattle.scr_text.specs.declared.word.Keyword.{Keyword}
 use Rattle.scr_text.specs.declared.word.Keyword.TheVariants as k
 use Rattle.scr_reader.specs.declared.draft.DraftOperand.{DraftOperand}
 use Rattle.scr_reader.specs.declared.draft.DraftOperand.TheVariants as o

@@ -1,6 +1,6 @@
 -- Lists of names, numbers with a sign, values and types. Each relation goes from the words where the part begins to the
 -- words that are left behind it.
-use Rattle.std.specs.Prelude.{ℕ, ℤ, neg_ℤ, Bool, true, false, List, [], ◌∷◌}
+use Rattle.std.specs.Prelude.{ℕ, ℤ, neg_ℤ, true, false, List, [], ◌∷◌}
 use Rattle.scr_text.specs.declared.word.Word.{Word}
 use Rattle.scr_text.specs.declared.word.Word.TheVariants as w
 use Rattle.scr_text.specs.declared.word.Sign.TheVariants as s

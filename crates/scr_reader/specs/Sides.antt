@@ -1,5 +1,5 @@
 -- Sides: sums of items. Where primes are allowed, an item may have a primed name in the place of a name.
-use Rattle.std.specs.Prelude.{◌≡◌, ℕ, ℤ, pos, neg_ℤ, Bool, true, false, List, [], ◌∷◌}
+use Rattle.std.specs.Prelude.{ℕ, ℤ, pos, neg_ℤ, Bool, true, false, List, [], ◌∷◌}
 use Rattle.scr_text.specs.declared.word.Word.{Word}
 use Rattle.scr_text.specs.declared.word.Word.TheVariants as w
 use Rattle.scr_text.specs.declared.word.Sign.TheVariants as s

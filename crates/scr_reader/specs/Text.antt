@@ -1,6 +1,6 @@
 -- A text: its lines one after another, each with a form at its place and within the limits, or the first line that is
 -- refused.
-use Rattle.std.specs.Prelude.{◌≡◌, ◌≢◌, ◌⊎◌, ℕ, ◌+◌, ◌<◌, ◌≤◌, Bool, true, false, List, [], ◌∷◌, ◌++◌, length, Option, Some, None}
+use Rattle.std.specs.Prelude.{◌≡◌, ◌≢◌, ◌⊎◌, ℕ, ◌+◌, ◌<◌, ◌≤◌, true, false, List, [], ◌∷◌, ◌++◌, length, Option, Some, None}
 use Rattle.scr_text.specs.declared.fault.LexFault.TheVariants as f
 use Rattle.scr_text.specs.declared.word.Token.{Token}
 use Rattle.scr_text.specs.declared.word.Word.{Word}
@@ -8,12 +8,11 @@ use Rattle.scr_text.specs.Lines.{lines}
 use Rattle.scr_text.specs.Tokens.{IsLexed, Refuses}
 use Rattle.scr_reader.specs.declared.draft.Statement.{Statement}
 use Rattle.scr_reader.specs.declared.draft.Numbered.{Numbered}
-use Rattle.scr_reader.specs.declared.draft.Draft.{Draft}
 use Rattle.scr_reader.specs.declared.place.Place.{Place}
 use Rattle.scr_reader.specs.declared.place.Place.TheVariants.{Start, After}
 use Rattle.scr_reader.specs.declared.place.Position.{Position}
 use Rattle.scr_reader.specs.declared.place.TextKind.{TextKind}
-use Rattle.scr_reader.specs.declared.place.TextKind.TheVariants as kind
+use Rattle.scr_reader.specs.declared.place.TextKind.TheVariants as k
 use Rattle.scr_reader.specs.declared.place.TextFault.{TextFault}
 use Rattle.scr_reader.specs.declared.place.TextFault.TheVariants as fault
 use Rattle.scr_reader.specs.Words.{words}
@@ -48,13 +47,13 @@ PassesLimit position from = (statement : Statement) × (next : Place) × Form po
 -- The first step that refuses the line: its length, a byte, a piece that is no token, a token too large, what its words
 -- open, no form, a statement or a count too large.
 abbrev pub LineRefuses : Position → List ℕ → TextKind → Type 0
-LineRefuses position line kind.Byte = Refuses line f.Byte
-LineRefuses position line kind.Syntax = Refuses line f.Syntax
+LineRefuses position line k.Byte = Refuses line f.Byte
+LineRefuses position line k.Syntax = Refuses line f.Syntax
     ⊎ ((tokens : List Token) × IsLexed line tokens × (0 < length tokens) × (is_line_within (words tokens) ≡ true) × NoForm position.place (words tokens))
-LineRefuses position line kind.Limit = Refuses line f.Limit
+LineRefuses position line k.Limit = Refuses line f.Limit
     ⊎ ((tokens : List Token) × IsLexed line tokens × ((is_line_within (words tokens) ≡ false)
-        ⊎ ((is_line_within (words tokens) ≡ true) × PassesLimit position (words tokens))))
-LineRefuses position line kind.End = ⊥
+    ⊎ ((is_line_within (words tokens) ≡ true) × PassesLimit position (words tokens))))
+LineRefuses position line k.End = ⊥
 
 -- ---- the lines
 
@@ -76,7 +75,7 @@ pub data Refused : Position → ℕ → List (List ℕ) → ℕ → TextKind →
       → Refused position n (line ∷ more) n kind
   later : {position next : Position} {n m : ℕ} {line : List ℕ} {more : List (List ℕ)} {statement : Option Statement} {kind : TextKind}
       → LineReads position line statement next → Refused next (n + 1) more m kind → Refused position n (line ∷ more) m kind
-  unfinished : {position : Position} {n : ℕ} → position.place ≢ After → Refused position n [] n kind.End
+  unfinished : {position : Position} {n : ℕ} → position.place ≢ After → Refused position n [] n k.End
 
 -- ---- a text
 
@@ -94,7 +93,7 @@ pub record TextReads (text : List ℕ) (draft : List Numbered) : Type 0 where
 abbrev pub TextRefuses : List ℕ → TextFault → Type 0
 TextRefuses text fault.NoMemory = Unit {0}
 TextRefuses text (fault.Refused line kind) =
-    ((1048576 < length text) × (line ≡ 0) × (kind ≡ kind.Limit)) ⊎ ((length text ≤ 1048576) × Refused start 1 (lines text) line kind)
+    ((1048576 < length text) × (line ≡ 0) × (kind ≡ k.Limit)) ⊎ ((length text ≤ 1048576) × Refused start 1 (lines text) line kind)
 
 -- a text is read in one way, or refused in one way
 pub record OneOutcome : Type 0 where

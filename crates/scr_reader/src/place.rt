@@ -1,6 +1,7 @@
 //! Places in a text, and why a text is refused.
 
 use scr_spec::Heading;
+use scr_text::NoMemory;
 use std::alloc::{AllocError, AllocFailed};
 
 /// Where in the text a line stands, which decides the forms that it may have.
@@ -69,6 +70,17 @@ impl<T: Drop> From<AllocFailed<T>> for TextFault {
     ghost from_gives = { λ _ e. e ≡ NoMemory };
 
     fn from(_: AllocFailed<T>) -> TextFault {
+        TextFault::NoMemory
+    }
+}
+
+impl From<NoMemory> for TextFault {
+    ghost use Rattle.std.specs.Prelude.{◌≡◌};
+    ghost use Rattle.scr_reader.specs.declared.place.TextFault.TheVariants as fault;
+
+    ghost from_gives = { λ _ e. e ≡ fault.NoMemory };
+
+    fn from(_: NoMemory) -> TextFault {
         TextFault::NoMemory
     }
 }
