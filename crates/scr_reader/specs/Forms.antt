@@ -16,6 +16,7 @@ use Rattle.scr_reader.specs.declared.draft.Statement.{Statement}
 use Rattle.scr_reader.specs.declared.draft.Statement.TheVariants as st
 use Rattle.scr_reader.specs.declared.place.Place.{Place}
 use Rattle.scr_reader.specs.declared.place.Place.TheVariants as p
+use Rattle.scr_reader.specs.Words.{IsNatural}
 use Rattle.scr_reader.specs.Names.{Names, Int, KindOf, Value}
 use Rattle.scr_reader.specs.Events.{event_of, Event, Cells, Sides}
 
@@ -89,7 +90,7 @@ pub data Form : Place → List Word → Statement → Place → Type 0 where
       → Form p.Declarations (w.Reserved k.Term ∷ from) (st.Variable role.Term name kind init) p.Declarations
   controlled : {from : List Word} {name : List ℕ} {kind : DraftKind} {init : Option DraftValue} → VariableRest from name kind init
       → Form p.Declarations (w.Reserved k.Controlled ∷ from) (st.Variable role.Controlled name kind init) p.Declarations
-  nat : {name : List ℕ} {n : ℤ} → Form p.Declarations (w.Reserved k.Nat ∷ w.Name name ∷ w.Reserved k.Step ∷ w.Number n ∷ []) (st.Nat name n) p.Declarations
+  nat : {name : List ℕ} {n : ℤ} → IsNatural n → Form p.Declarations (w.Reserved k.Nat ∷ w.Name name ∷ w.Reserved k.Step ∷ w.Number n ∷ []) (st.Nat name n) p.Declarations
   condition_head : {place : Place} {from : List Word} {name : List ℕ} {over : Option (List ℕ)} → is_between place ≡ true → HeadRest from name over
       → Form place (w.Reserved k.Condition ∷ from) (st.Head h.Condition name over) (p.FirstRow h.Condition)
   event_head : {place : Place} {from : List Word} {name : List ℕ} {over : Option (List ℕ)} → is_between place ≡ true → HeadRest from name over

@@ -9,7 +9,7 @@ use Rattle.scr_reader.specs.declared.draft.DraftKind.{DraftKind}
 use Rattle.scr_reader.specs.declared.draft.DraftKind.TheVariants as kind
 use Rattle.scr_reader.specs.declared.draft.DraftValue.{DraftValue}
 use Rattle.scr_reader.specs.declared.draft.DraftValue.TheVariants as value
-use Rattle.scr_reader.specs.Words.{NotAt}
+use Rattle.scr_reader.specs.Words.{NotAt, IsNatural}
 
 -- n {, n}
 pub data Names : List Word → List (List ℕ) → List Word → Type 0 where
@@ -19,8 +19,8 @@ pub data Names : List Word → List (List ℕ) → List Word → Type 0 where
 
 -- [ '-' ] number
 pub data Int : List Word → ℤ → List Word → Type 0 where
-  plain_int : {n : ℤ} {rest : List Word} → Int (w.Number n ∷ rest) n rest
-  minus_int : {n : ℤ} {rest : List Word} → Int (w.Sign s.Minus ∷ w.Number n ∷ rest) (neg_ℤ n) rest
+  plain_int : {n : ℤ} {rest : List Word} → IsNatural n → Int (w.Number n ∷ rest) n rest
+  minus_int : {n : ℤ} {rest : List Word} → IsNatural n → Int (w.Sign s.Minus ∷ w.Number n ∷ rest) (neg_ℤ n) rest
 
 -- BOOLEAN or the name of a type
 pub data KindOf : List Word → DraftKind → List Word → Type 0 where

@@ -8,7 +8,7 @@ use Rattle.scr_reader.specs.declared.draft.DraftOperand.{DraftOperand}
 use Rattle.scr_reader.specs.declared.draft.DraftOperand.TheVariants as o
 use Rattle.scr_reader.specs.declared.draft.DraftItem.{DraftItem}
 use Rattle.scr_reader.specs.declared.draft.DraftSide.{DraftSide}
-use Rattle.scr_reader.specs.Words.{NotAt}
+use Rattle.scr_reader.specs.Words.{NotAt, IsNatural}
 
 abbrev pub item_of : ℤ → DraftOperand → DraftItem
 item_of factor operand = record { factor = factor; operand = operand }
@@ -28,8 +28,8 @@ pub data Reference : Bool → List Word → DraftOperand → List Word → Type 
 -- a number, a number times a name, a name, TRUE or FALSE; without a number the factor is 1, and a number alone is the
 -- factor of One
 pub data Item : Bool → List Word → DraftItem → List Word → Type 0 where
-  number : {primes : Bool} {n : ℤ} {rest : List Word} → NotAt (w.Sign s.Times) rest → Item primes (w.Number n ∷ rest) (item_of n o.One) rest
-  times : {primes : Bool} {n : ℤ} {from rest : List Word} {operand : DraftOperand} → Reference primes from operand rest
+  number : {primes : Bool} {n : ℤ} {rest : List Word} → IsNatural n → NotAt (w.Sign s.Times) rest → Item primes (w.Number n ∷ rest) (item_of n o.One) rest
+  times : {primes : Bool} {n : ℤ} {from rest : List Word} {operand : DraftOperand} → IsNatural n → Reference primes from operand rest
       → Item primes (w.Number n ∷ w.Sign s.Times ∷ from) (item_of n operand) rest
   reference : {primes : Bool} {from rest : List Word} {operand : DraftOperand} → Reference primes from operand rest
       → Item primes from (item_of (pos 1) operand) rest

@@ -1,10 +1,11 @@
 -- Words at the front of a list.
-use Rattle.std.specs.Prelude.{◌≡◌, ℕ, List, ◌∷◌, map}
+use Rattle.std.specs.Prelude.{◌≡◌, ℕ, ℤ, pos, ◌≤ℤ◌, List, ◌∷◌, map}
 use Rattle.scr_text.specs.declared.word.Token.{Token}
 use Rattle.scr_text.specs.declared.word.Word.{Word}
 use Rattle.scr_text.specs.declared.word.Word.TheVariants as w
 use Rattle.scr_text.specs.declared.word.Sign.{Sign}
 use Rattle.scr_text.specs.declared.word.Sign.TheVariants as s
+use Rattle.scr_text.specs.declared.word.Keyword.{Keyword}
 use Rattle.scr_text.specs.declared.word.Relation.{Relation}
 use Rattle.scr_text.specs.declared.word.Relation.TheVariants as r
 
@@ -18,6 +19,18 @@ NotAt word from = (rest : List Word) → from ≡ word ∷ rest → ⊥
 -- the words do not begin with a name
 abbrev pub NotAtName : List Word → Type 0
 NotAtName from = (name : List ℕ) (rest : List Word) → from ≡ w.Name name ∷ rest → ⊥
+
+-- the number of a token is not negative
+abbrev pub IsNatural : ℤ → Type 0
+IsNatural n = pos 0 ≤ℤ n
+
+-- the words do not begin with a number
+abbrev pub NotAtNumber : List Word → Type 0
+NotAtNumber from = (n : ℤ) (rest : List Word) → IsNatural n → from ≡ w.Number n ∷ rest → ⊥
+
+-- the words do not begin with a reserved word
+abbrev pub NotAtKeyword : List Word → Type 0
+NotAtKeyword from = (keyword : Keyword) (rest : List Word) → from ≡ w.Reserved keyword ∷ rest → ⊥
 
 -- the sign of a relation
 abbrev pub sign_of : Relation → Sign

@@ -3,6 +3,7 @@
 
 mod draft;
 mod place;
+mod step;
 
 pub use draft::{
     Draft, DraftCell, DraftChange, DraftCond, DraftEvent, DraftItem, DraftKind, DraftOperand,
