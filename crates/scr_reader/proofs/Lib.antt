@@ -1,0 +1,2 @@
+mod FormsAt
+pub mod FormsOnce

@@ -2,6 +2,8 @@
 #![tactic(auto)]
 
 mod draft;
+mod fault;
+mod names;
 mod place;
 mod step;
 
