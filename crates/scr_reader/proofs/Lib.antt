@@ -1,2 +1,3 @@
 mod FormsAt
 pub mod FormsOnce
+mod LimitLaws

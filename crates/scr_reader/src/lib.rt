@@ -3,6 +3,7 @@
 
 mod draft;
 mod fault;
+mod limit;
 mod names;
 mod place;
 mod step;
