@@ -1,9 +1,9 @@
-//! Why the words of a line are not read.
+//! Why words have no form.
 
 use scr_text::NoMemory;
 use std::alloc::{AllocError, AllocFailed};
 
-/// The words have no such form, or memory ran out.
+/// The words have no reading as the part that is asked for, or memory ran out.
 #[derive(Clone, Copy, Debug, PartialEq, Eq)]
 pub(crate) enum FormFault {
     Refused,
@@ -14,7 +14,7 @@ impl From<AllocError> for FormFault {
     ghost use Rattle.std.specs.Prelude.{◌≡◌};
     ghost use Rattle.scr_reader.specs.declared.fault.FormFault.TheVariants.{NoMemory};
 
-    ghost from_gives = { λ _ e. e ≡ NoMemory };
+    ghost from_gives = { λ _ fault. fault ≡ NoMemory };
 
     fn from(_: AllocError) -> FormFault {
         FormFault::NoMemory
@@ -25,7 +25,7 @@ impl<T: Drop> From<AllocFailed<T>> for FormFault {
     ghost use Rattle.std.specs.Prelude.{◌≡◌};
     ghost use Rattle.scr_reader.specs.declared.fault.FormFault.TheVariants.{NoMemory};
 
-    ghost from_gives = { λ _ e. e ≡ NoMemory };
+    ghost from_gives = { λ _ fault. fault ≡ NoMemory };
 
     fn from(_: AllocFailed<T>) -> FormFault {
         FormFault::NoMemory
@@ -36,7 +36,7 @@ impl From<NoMemory> for FormFault {
     ghost use Rattle.std.specs.Prelude.{◌≡◌};
     ghost use Rattle.scr_reader.specs.declared.fault.FormFault.TheVariants as fault;
 
-    ghost from_gives = { λ _ e. e ≡ fault.NoMemory };
+    ghost from_gives = { λ _ given. given ≡ fault.NoMemory };
 
     fn from(_: NoMemory) -> FormFault {
         FormFault::NoMemory
