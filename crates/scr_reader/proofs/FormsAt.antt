@@ -1,13 +1,18 @@
 -- How parts of a line begin, by an equation for each word.
 use Rattle.std.proofs.Common.{◌≡◌, ℕ, ℤ, pos, ◌-ℤ◌, List, [], ◌∷◌, refl, ap, subst, ◌∙◌, arith}
-use Rattle.std.specs.Prelude.{neg_ℤ}
+use Rattle.std.specs.Prelude.{neg_ℤ, Option, None, Some}
 use Rattle.std.proofs.lemmas.Int.{ints}
 use Rattle.scr_text.specs.declared.word.Word.{Word}
 use Rattle.scr_text.specs.declared.word.Word.TheVariants as w
 use Rattle.scr_text.specs.declared.word.Sign.TheVariants as s
+use Rattle.scr_text.specs.declared.word.Keyword.TheVariants as k
 use Rattle.scr_reader.specs.declared.draft.DraftValue.TheVariants as value
 use Rattle.scr_reader.specs.Words.{IsNatural, NotAt, NotAtName}
-use Rattle.scr_reader.specs.Names.{Names, last_name, name_comma, Int, plain_int, minus_int, Value, number_value}
+use Rattle.scr_reader.specs.declared.draft.DraftKind.{DraftKind}
+use Rattle.scr_reader.specs.declared.draft.DraftValue.{DraftValue}
+use Rattle.scr_reader.specs.declared.draft.Statement.TheVariants as st
+use Rattle.scr_reader.specs.Forms.{Bounds, bounds, TypeRest, range, labels, ConstRest, constant, Initial, initial, Typed, plain, VariableRest, variable, ClassRest, class, HeadRest, without_class, over_class}
+use Rattle.scr_reader.specs.Names.{Braced, braced, KindOf, Names, last_name, name_comma, Int, plain_int, minus_int, Value, number_value}
 
 zero-sub : (n : ℤ) → pos 0 -ℤ n ≡ neg_ℤ n
 zero-sub n = omega (arith, ints)
@@ -43,3 +48,48 @@ names_with e f d = rw (e, f) (name_comma d)
 
 pub names_end : {from rest : List Word} {name : List ℕ} → from ≡ w.Name name ∷ rest → NotAt (w.Sign s.Comma) rest → Names from (name ∷ []) rest
 names_end e n = rw e (last_name n)
+
+pub braced_at : {a b c d : List Word} {names : List (List ℕ)} → a ≡ w.Sign s.OpenBrace ∷ b → Names b names c → c ≡ w.Sign s.CloseBrace ∷ d → Braced a names d
+braced_at {b = b} {names = names} e n f = rw e (braced (subst (λ c. Names b names c) f n))
+
+-- ---- declarations
+
+int_to : {a b c : List Word} {v : ℤ} → b ≡ c → Int a v b → Int a v c
+int_to {a} {v = v} e i = subst (λ b. Int a v b) e i
+
+pub bounds_at : {a b c : List Word} {u v x y : ℤ} → Int a u b → b ≡ w.Sign s.Dots ∷ c → Int c v [] → x ≡ u → y ≡ v → Bounds a x y
+bounds_at i e j f g = rw (f, g) (bounds (int_to e i) j)
+
+pub range_at : {a b : List Word} {name label : List ℕ} {u v x y : ℤ} → a ≡ w.Name name ∷ w.Sign s.Equal ∷ b → label ≡ name → Bounds b u v → x ≡ u → y ≡ v
+    → TypeRest a (st.Range label x y)
+range_at e f d g h = rw (e, f, g, h) (range d)
+
+pub labels_at : {a b : List Word} {name label : List ℕ} {names : List (List ℕ)} → a ≡ w.Name name ∷ w.Sign s.Equal ∷ b → label ≡ name → Braced b names []
+    → TypeRest a (st.Labels label names)
+labels_at e f d = rw (e, f) (labels d)
+
+pub const_at : {a b : List Word} {name : List ℕ} {v x : ℤ} → a ≡ w.Name name ∷ w.Sign s.Equal ∷ b → Int b v [] → x ≡ v → ConstRest a name x
+const_at e i f = rw (e, f) (constant i)
+
+pub initial_at : {a b c : List Word} {v : DraftValue} → a ≡ w.Reserved k.Init ∷ b → Value b v c → c ≡ [] → Initial a v
+initial_at {b = b} {v = v} e d f = rw e (initial (subst (λ c. Value b v c) f d))
+
+pub plain_at : {a b : List Word} {i : DraftKind} → KindOf a i b → b ≡ [] → Typed a i None
+plain_at {a} {i = i} d f = plain (subst (λ b. KindOf a i b) f d)
+
+pub variable_at : {a b : List Word} {name label : List ℕ} {i : DraftKind} {init : Option DraftValue} → a ≡ w.Name name ∷ w.Sign s.Colon ∷ b → label ≡ name
+    → Typed b i init → VariableRest a label i init
+variable_at e f d = rw (e, f) (variable d)
+
+pub class_at : {a b c : List Word} {name label first mode : List ℕ} {modes members : List (List ℕ)} → a ≡ w.Name name ∷ w.Sign s.Equal ∷ b → label ≡ name
+    → Braced b modes c → members ≡ modes → c ≡ w.Reserved k.Init ∷ w.Name first ∷ [] → mode ≡ first → ClassRest a label members mode
+class_at {b = b} {modes = modes} e f d i g h = rw (e, f, i, h) (class (subst (λ c. Braced b modes c) g d))
+
+-- ---- tables
+
+pub head_at : {a b : List Word} {name label : List ℕ} → a ≡ w.Name name ∷ b → b ≡ [] → label ≡ name → HeadRest a label None
+head_at e f g = rw (e, f, g) without_class
+
+pub head_over_at : {a b : List Word} {name label over class : List ℕ} → a ≡ w.Name name ∷ b → b ≡ w.Reserved k.Over ∷ w.Name over ∷ [] → label ≡ name → class ≡ over
+    → HeadRest a label (Some class)
+head_over_at e f g h = rw (e, f, g, h) over_class

@@ -1,10 +1,15 @@
 -- The parts of a line and its form are one thing.
-use Rattle.std.proofs.Common.{◌≡◌, ℕ, ℤ, List, ◌∷◌, refl, ap}
+use Rattle.std.proofs.Common.{◌≡◌, ℕ, ℤ, List, [], ◌∷◌, refl, sym, ap, ap₂, subst}
+use Rattle.std.specs.Prelude.{Option, Some}
 use Rattle.scr_text.specs.declared.word.Word.{Word}
+use Rattle.scr_text.specs.declared.word.Word.TheVariants as w
 use Rattle.scr_reader.specs.declared.draft.DraftKind.{DraftKind}
 use Rattle.scr_reader.specs.declared.draft.DraftValue.{DraftValue}
 use Rattle.scr_reader.specs.declared.draft.DraftValue.TheVariants as value
-use Rattle.scr_reader.specs.Names.{Names, last_name, name_comma, Int, plain_int, minus_int, KindOf, boolean, named_kind, Value, number_value, named_value, true_value, false_value}
+use Rattle.scr_reader.specs.declared.draft.Statement.{Statement}
+use Rattle.scr_reader.specs.declared.draft.Statement.TheVariants as st
+use Rattle.scr_reader.specs.Forms.{Bounds, bounds, TypeRest, range, labels, ConstRest, constant, Initial, initial, Typed, plain, with_init, VariableRest, variable, ClassRest, class, HeadRest, without_class, over_class}
+use Rattle.scr_reader.specs.Names.{Names, last_name, name_comma, Braced, braced, Int, plain_int, minus_int, KindOf, boolean, named_kind, Value, number_value, named_value, true_value, false_value}
 
 -- ---- names, numbers, types and values
 
@@ -13,6 +18,17 @@ names_once (last_name n) (last_name m) = (refl, refl)
 names_once (last_name n) (name_comma d) = absurd (n _ refl)
 names_once (name_comma d) (last_name n) = absurd (n _ refl)
 names_once (name_comma {name = n} d) (name_comma e) = let same = names_once d e in (ap (λ ns. n ∷ ns) same.0, same.1)
+
+-- the words behind a first one
+behind : {a b : List Word} {word other : Word} → word ∷ a ≡ other ∷ b → a ≡ b
+behind e = cc
+
+-- the name in front
+named : {a b : List Word} {name label : List ℕ} → w.Name name ∷ a ≡ w.Name label ∷ b → name ≡ label
+named e = cc
+
+pub braced_once : {from rest other : List Word} {ns ms : List (List ℕ)} → Braced from ns rest → Braced from ms other → (ns ≡ ms) × (rest ≡ other)
+braced_once (braced d) (braced e) = let same = names_once d e in (same.0, behind same.1)
 
 pub int_once : {from rest other : List Word} {u v : ℤ} → Int from u rest → Int from v other → (u ≡ v) × (rest ≡ other)
 int_once (plain_int n) (plain_int m) = (refl, refl)
@@ -33,3 +49,54 @@ value_once false_value (number_value i) = elim i [ ]
 value_once named_value named_value = (refl, refl)
 value_once true_value true_value = (refl, refl)
 value_once false_value false_value = (refl, refl)
+
+-- ---- declarations
+
+int_from : {a b rest : List Word} {v : ℤ} → a ≡ b → Int b v rest → Int a v rest
+int_from {rest = rest} {v} e i = subst (λ from. Int from v rest) (sym e) i
+
+pub bounds_once : {from : List Word} {lo hi u v : ℤ} → Bounds from lo hi → Bounds from u v → (lo ≡ u) × (hi ≡ v)
+bounds_once (bounds i j) (bounds k l) = let same = int_once i k in (same.0, (int_once j (int_from (behind same.1) l)).0)
+
+-- a range does not begin with a brace
+no_bounds : {from rest : List Word} {names : List (List ℕ)} {lo hi : ℤ} → Bounds from lo hi → Braced from names rest → ⊥
+no_bounds (bounds i j) (braced d) = elim i [ ]
+
+pub type_once : {from : List Word} {a b : Statement} → TypeRest from a → TypeRest from b → a ≡ b
+type_once (range {name = name} d) (range e) = let same = bounds_once d e in ap₂ (λ lo hi. st.Range name lo hi) same.0 same.1
+type_once (range d) (labels e) = absurd (no_bounds d e)
+type_once (labels d) (range e) = absurd (no_bounds e d)
+type_once (labels {name = name} d) (labels e) = ap (λ names. st.Labels name names) (braced_once d e).0
+
+pub const_once : {from : List Word} {name label : List ℕ} {u v : ℤ} → ConstRest from name u → ConstRest from label v → (name ≡ label) × (u ≡ v)
+const_once (constant i) (constant j) = (refl, (int_once i j).0)
+
+initial_once : {from : List Word} {u v : DraftValue} → Initial from u → Initial from v → u ≡ v
+initial_once (initial d) (initial e) = (value_once d e).0
+
+initial_from : {a b : List Word} {v : DraftValue} → a ≡ b → Initial b v → Initial a v
+initial_from {v = v} e i = subst (λ from. Initial from v) (sym e) i
+
+-- INIT is not the end of a line
+no_initial : {from : List Word} {v : DraftValue} → [] ≡ from → Initial from v → ⊥
+no_initial e i = elim (initial_from e i) [ ]
+
+typed_once : {from : List Word} {i j : DraftKind} {u v : Option DraftValue} → Typed from i u → Typed from j v → (i ≡ j) × (u ≡ v)
+typed_once (plain d) (plain e) = ((kind_once d e).0, refl)
+typed_once (plain d) (with_init e i) = absurd (no_initial (kind_once d e).1 i)
+typed_once (with_init d i) (plain e) = absurd (no_initial (kind_once e d).1 i)
+typed_once (with_init d i) (with_init e j) = let same = kind_once d e in (same.0, ap (λ v. Some v) (initial_once i (initial_from same.1 j)))
+
+pub variable_once : {from : List Word} {name label : List ℕ} {i j : DraftKind} {u v : Option DraftValue} → VariableRest from name i u → VariableRest from label j v
+    → (name ≡ label) × (i ≡ j) × (u ≡ v)
+variable_once (variable d) (variable e) = let same = typed_once d e in (refl, same.0, same.1)
+
+pub class_once : {from : List Word} {name label first mode : List ℕ} {modes members : List (List ℕ)} → ClassRest from name modes first → ClassRest from label members mode
+    → (name ≡ label) × (modes ≡ members) × (first ≡ mode)
+class_once (class d) (class e) = let same = braced_once d e in (refl, same.0, named (behind same.1))
+
+-- ---- tables
+
+pub head_once : {from : List Word} {name label : List ℕ} {over class : Option (List ℕ)} → HeadRest from name over → HeadRest from label class → (name ≡ label) × (over ≡ class)
+head_once without_class without_class = (refl, refl)
+head_once over_class over_class = (refl, refl)

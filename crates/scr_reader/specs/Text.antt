@@ -16,7 +16,7 @@ use Rattle.scr_reader.specs.declared.place.TextKind.TheVariants as k
 use Rattle.scr_reader.specs.declared.place.TextFault.{TextFault}
 use Rattle.scr_reader.specs.declared.place.TextFault.TheVariants as fault
 use Rattle.scr_reader.specs.Words.{words}
-use Rattle.scr_reader.specs.Forms.{Form}
+use Rattle.scr_reader.specs.Forms.{Form, NoForm}
 use Rattle.scr_reader.specs.Limits.{is_line_within, is_statement_within, counted, is_count_within, no_counts}
 
 -- ---- a line
@@ -34,10 +34,6 @@ pub data LineReads : Position → List ℕ → Option Statement → Position →
   blank : {position : Position} {line : List ℕ} → IsLexed line [] → LineReads position line None position
   says : {position next : Position} {line : List ℕ} {tokens : List Token} {statement : Statement} → IsLexed line tokens
       → Says position (words tokens) statement next → LineReads position line (Some statement) next
-
--- the words have no form here
-abbrev pub NoForm : Place → List Word → Type 0
-NoForm place from = (statement : Statement) (next : Place) → Form place from statement next → ⊥
 
 -- the words have a form here, but the statement or the lines so far pass a limit
 abbrev pub PassesLimit : Position → List Word → Type 0

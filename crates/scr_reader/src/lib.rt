@@ -1,12 +1,15 @@
 //! Reads the text of a specification: from bytes to statements with their lines.
 #![tactic(auto)]
 
+mod declaration;
 mod draft;
 mod fault;
+mod form;
 mod limit;
 mod names;
 mod place;
 mod step;
+mod table;
 
 pub use draft::{
     Draft, DraftCell, DraftChange, DraftCond, DraftEvent, DraftItem, DraftKind, DraftOperand,
