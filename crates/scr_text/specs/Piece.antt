@@ -1,0 +1,107 @@
+-- The pieces that a line is cut into, longest first.
+use Rattle.std.specs.Prelude.{◌≡◌, ℕ, zero, suc, ◌+◌, ◌<◌, ◌≤◌, Bool, true, false, ◌&&◌, ◌||◌, if◌then◌else◌, ◌==◌, List, [], ◌∷◌, length, take}
+use Rattle.std.specs.Char.{is_ascii_alphabetic, is_ascii_digit}
+
+-- a letter, a digit or `_`
+abbrev pub is_word_byte : ℕ → Bool
+is_word_byte b = is_ascii_alphabetic b || is_ascii_digit b || b == 95
+
+-- a space or a tab
+abbrev pub is_blank : ℕ → Bool
+is_blank b = b == 32 || b == 9
+
+-- a sign of one byte that begins no longer sign: `( ) { } , : | = + - *`
+abbrev pub is_single : ℕ → Bool
+is_single b = b == 40 || b == 41 || b == 123 || b == 125 || b == 44 || b == 58 || b == 124 || b == 61 || b == 43 || b == 45 || b == 42
+
+-- there are no bytes
+abbrev pub is_nothing : List ℕ → Bool
+is_nothing [] = true
+is_nothing (b ∷ bytes) = false
+
+-- the bytes are this one byte
+abbrev pub is_byte : ℕ → List ℕ → Bool
+is_byte x [] = false
+is_byte x (b ∷ bytes) = b == x && is_nothing bytes
+
+-- how a name goes on behind its first letter, with or without a prime
+abbrev pub is_name_rest : List ℕ → Bool
+is_name_rest [] = true
+is_name_rest (b ∷ bytes) = (is_word_byte b && is_name_rest bytes) || (b == 39 && is_nothing bytes)
+
+-- digits alone
+abbrev pub is_digits : List ℕ → Bool
+is_digits [] = true
+is_digits (b ∷ bytes) = is_ascii_digit b && is_digits bytes
+
+-- letters, digits and `_` alone
+abbrev pub is_word_bytes : List ℕ → Bool
+is_word_bytes [] = true
+is_word_bytes (b ∷ bytes) = is_word_byte b && is_word_bytes bytes
+
+-- the bytes are one piece: a name with or without a prime, a number, `@` with all letters, digits
+-- and `_` behind it, or one of the other signs
+abbrev pub is_piece : List ℕ → Bool
+is_piece [] = false
+is_piece (b ∷ bytes) =
+    if is_ascii_alphabetic b then is_name_rest bytes
+    else (if is_ascii_digit b then is_digits bytes
+    else (if b == 64 then is_word_bytes bytes
+    else (if b == 60 || b == 62 then is_nothing bytes || is_byte 61 bytes
+    else (if b == 33 then is_byte 61 bytes
+    else (if b == 46 then is_byte 46 bytes
+    else is_single b && is_nothing bytes)))))
+
+-- a piece of this length stands in front, and no longer one does
+pub record IsLongest (bytes : List ℕ) (n : ℕ) : Type 0 where
+  pub within : n ≤ length bytes
+  pub piece : is_piece (take n bytes) ≡ true
+  pub longest : (m : ℕ) → n < m → m ≤ length bytes → is_piece (take m bytes) ≡ false
+
+-- no piece stands in front
+abbrev pub NoPiece : List ℕ → Type 0
+NoPiece bytes = (m : ℕ) → m ≤ length bytes → is_piece (take m bytes) ≡ false
+
+-- ---- the length of the longest piece in front, or 0
+
+-- how many letters, digits and `_` stand in front
+abbrev pub word_bytes_len : List ℕ → ℕ
+word_bytes_len [] = 0
+word_bytes_len (b ∷ bytes) = if is_word_byte b then suc (word_bytes_len bytes) else 0
+
+-- likewise with a prime behind them
+abbrev pub name_rest_len : List ℕ → ℕ
+name_rest_len [] = 0
+name_rest_len (b ∷ bytes) = if is_word_byte b then suc (name_rest_len bytes) else (if b == 39 then 1 else 0)
+
+-- how many digits stand in front
+abbrev pub digits_len : List ℕ → ℕ
+digits_len [] = 0
+digits_len (b ∷ bytes) = if is_ascii_digit b then suc (digits_len bytes) else 0
+
+-- 1 where this byte stands in front
+abbrev pub byte_len : ℕ → List ℕ → ℕ
+byte_len x [] = 0
+byte_len x (b ∷ bytes) = if b == x then 1 else 0
+
+-- a sign of this byte and the one before it, where this byte stands in front
+abbrev pub pair_len : ℕ → List ℕ → ℕ
+pair_len x [] = 0
+pair_len x (b ∷ bytes) = if b == x then 2 else 0
+
+-- the length of the longest piece in front, or 0 where there is none
+unfoldable pub piece_len : List ℕ → ℕ
+piece_len [] = 0
+piece_len (b ∷ bytes) =
+    if is_ascii_alphabetic b then suc (name_rest_len bytes)
+    else (if is_ascii_digit b then suc (digits_len bytes)
+    else (if b == 64 then suc (word_bytes_len bytes)
+    else (if b == 60 || b == 62 then suc (byte_len 61 bytes)
+    else (if b == 33 then pair_len 61 bytes
+    else (if b == 46 then pair_len 46 bytes
+    else (if is_single b then 1 else 0))))))
+
+-- the length is that of the longest piece in front, or 0 where there is none
+pub record CutsLongest (bytes : List ℕ) (n : ℕ) : Type 0 where
+  pub found : 0 < n → IsLongest bytes n
+  pub none : n ≡ 0 → NoPiece bytes

@@ -1,0 +1,123 @@
+//! Cuts the longest piece in front.
+
+ghost use Rattle.std.specs.Prelude.{◌≡◌, ◌≤◌, ◌+◌, [], ◌∷◌, length, MatchOption};
+ghost use Rattle.scr_text.specs.Piece as spec;
+
+fn is_word_byte(b: u8) -> bool
+    ensures { result ≡ spec.is_word_byte b }
+{
+    b.is_ascii_alphabetic() || b.is_ascii_digit() || b == b'_'
+}
+
+fn is_single(b: u8) -> bool
+    ensures { result ≡ spec.is_single b }
+{
+    matches!(
+        b,
+        b'(' | b')' | b'{' | b'}' | b',' | b':' | b'|' | b'=' | b'+' | b'-' | b'*'
+    )
+}
+
+fn word_bytes_len(bytes: &[u8]) -> usize
+    ensures value { result ≡ spec.word_bytes_len bytes.now }
+    ensures within { result ≤ length bytes.now }
+{
+    let mut n = 0;
+    while n < bytes.len() && is_word_byte(bytes[n]) {
+        n += 1;
+    }
+    n
+}
+
+fn name_rest_len(bytes: &[u8]) -> usize
+    ensures value { result ≡ spec.name_rest_len bytes.now }
+    ensures within { result ≤ length bytes.now }
+{
+    let mut n = 0;
+    while n < bytes.len() && is_word_byte(bytes[n]) {
+        n += 1;
+    }
+    if n < bytes.len() && bytes[n] == b'\'' {
+        n + 1
+    } else {
+        n
+    }
+}
+
+fn digits_len(bytes: &[u8]) -> usize
+    ensures value { result ≡ spec.digits_len bytes.now }
+    ensures within { result ≤ length bytes.now }
+{
+    let mut n = 0;
+    while n < bytes.len() && bytes[n].is_ascii_digit() {
+        n += 1;
+    }
+    n
+}
+
+fn byte_len(byte: u8, bytes: &[u8]) -> usize
+    ensures value { result ≡ spec.byte_len byte bytes.now }
+    ensures within { result ≤ length bytes.now }
+{
+    match first_and_rest(bytes) {
+        Some((first, _)) if first == byte => 1,
+        _ => 0,
+    }
+}
+
+fn pair_len(byte: u8, bytes: &[u8]) -> usize
+    ensures value { result ≡ spec.pair_len byte bytes.now }
+    ensures within { result ≤ length bytes.now + 1 }
+{
+    match first_and_rest(bytes) {
+        Some((first, _)) if first == byte => 2,
+        _ => 0,
+    }
+}
+
+/// The first byte, and the bytes behind it.
+pub(crate) fn first_and_rest(bytes: &[u8]) -> Option<(u8, &[u8])>
+    ensures { MatchOption result (bytes.now ≡ []) (λ x. bytes.now ≡ x.0 ∷ x.1.now) }
+{
+    match bytes.split_first() {
+        Some((b, rest)) => Some((*b, rest)),
+        None => None,
+    }
+}
+
+#[tactic(auto, unfolding(crate::specs::Piece::piece_len))]
+fn front_len(bytes: &[u8]) -> usize
+    ensures value { result ≡ spec.piece_len bytes.now }
+    ensures within { result ≤ length bytes.now }
+{
+    match first_and_rest(bytes) {
+        None => 0,
+        Some((b, rest)) => {
+            if b.is_ascii_alphabetic() {
+                1 + name_rest_len(rest)
+            } else if b.is_ascii_digit() {
+                1 + digits_len(rest)
+            } else if b == b'@' {
+                1 + word_bytes_len(rest)
+            } else if b == b'<' || b == b'>' {
+                1 + byte_len(b'=', rest)
+            } else if b == b'!' {
+                pair_len(b'=', rest)
+            } else if b == b'.' {
+                pair_len(b'.', rest)
+            } else if is_single(b) {
+                1
+            } else {
+                0
+            }
+        }
+    }
+}
+
+/// The length of the longest piece in front, or 0 where there is none.
+pub(crate) fn piece_len(bytes: &[u8]) -> usize
+    ensures within { result ≤ length bytes.now }
+    ensures longest { spec.CutsLongest bytes.now result }
+{
+    front_len(bytes)
+}
