@@ -1,12 +1,13 @@
 -- A line is cut into tokens in one way.
 use Rattle.std.proofs.Common.{◌≡◌, ◌≢◌, ℕ, zero, suc, ◌+◌, ◌<◌, ◌≤◌, Bool, true, false, ◌&&◌, ◌||◌, cond, nat_eq, List, [], ◌∷◌, ◌++◌, length, take, drop, Option, Some, None, refl, ap, sym, subst, ◌∙◌, inl, inr, ◌⊎◌, eqb-true, arith, rules}
+use Rattle.std.specs.List.{list_all}
 use Rattle.scr_text.specs.declared.fault.LexFault.{LexFault}
 use Rattle.scr_text.specs.declared.fault.LexFault.TheVariants as f
 use Rattle.scr_text.specs.declared.word.Word.{Word}
 use Rattle.scr_text.specs.declared.word.Token.{Token}
 use Rattle.scr_text.specs.Piece.{is_blank, is_piece, IsLongest, NoPiece}
 use Rattle.scr_text.specs.Words.{word_of}
-use Rattle.scr_text.specs.Tokens.{Tokens, no_more, blank, piece, IsLexed, Refuses}
+use Rattle.scr_text.specs.Tokens.{Tokens, no_more, blank, piece, is_small, IsLexed, Refuses}
 use Rattle.scr_text.specs.Lexing.{OneLexing}
 
 -- no piece stands in front of no bytes
@@ -64,10 +65,13 @@ tokens_at {at} {a} {b} {tokens} e d = subst (λ bytes. Tokens at bytes tokens) (
 
 -- ---- one list of tokens
 
--- a token with one list of tokens behind it
-tokens_same : {at n m : ℕ} {bytes : List ℕ} {word other : Word} {tokens more : List Token} → n ≡ m → word_of (take n bytes) ≡ Some word → word_of (take m bytes) ≡ Some other
-    → tokens ≡ more → _≡_ {A = List Token} (record { column = at; word = word } ∷ tokens) (record { column = at; word = other } ∷ more)
-tokens_same refl e f refl = grind arith
+-- a token of this word in this column, in front of others
+abbrev begins : ℕ → Word → List Token → List Token
+begins at word tokens = record { column = at; word = word } ∷ tokens
+
+-- equal tokens in front of equal others
+begins_same : (at : ℕ) {word other : Word} {tokens more : List Token} → Some word ≡ Some other → tokens ≡ more → begins at word tokens ≡ begins at other more
+begins_same at {word = word} {other = other} e h = let same : word ≡ other = cc in rw (same, h) refl
 
 -- bytes have at most one list of tokens
 pub tokens_once : {at : ℕ} {bytes : List ℕ} {a b : List Token} → Tokens at bytes a → Tokens at bytes b → a ≡ b
@@ -77,10 +81,11 @@ tokens_once (piece l e d) no_more = absurd (no_empty l)
 tokens_once (blank h d) (blank k e) = tokens_once d e
 tokens_once (blank {b = b} {bytes = bytes} h d) (piece {n = n} l e f) = absurd (blank_begins b n bytes h l.piece)
 tokens_once (piece {n = n} l e f) (blank {b = b} {bytes = bytes} h d) = absurd (blank_begins b n bytes h l.piece)
-tokens_once {at} {bytes} (piece {n = n} {tokens = a} l e d) (piece {n = m} {tokens = b} k f c) =
+tokens_once {at} {bytes} (piece {n = n} {word = word} {tokens = a} l e d) (piece {n = m} {word = other} {tokens = b} k f c) =
     let same : n ≡ m = longest_once l k in
     let there : Tokens (at + n) (drop n bytes) b = rw same c in
-    tokens_same same e f (tokens_once d there)
+    let same_word : word_of (take n bytes) ≡ Some other = rw same f in
+    begins_same at (sym e ∙ same_word) (tokens_once d there)
 
 -- a line has at most one list of tokens
 pub lexed_once : {line : List ℕ} {a b : List Token} → IsLexed line a → IsLexed line b → a ≡ b
@@ -90,7 +95,7 @@ lexed_once l k = tokens_once l.cut k.cut
 
 -- a test of equal lists has one answer
 one_answer : {A : Type 0} {a b : A} (test : A → Bool) → a ≡ b → test a ≡ true → test b ≡ false → ⊥
-one_answer test refl h k = cc
+one_answer {a = a} {b = b} test e h k = let same : test a ≡ test b = ap test e in cc
 
 -- a line with tokens is not refused
 pub lexed_apart : {line : List ℕ} {tokens : List Token} (fault : LexFault) → fault ≢ f.NoMemory → IsLexed line tokens → Refuses line fault → ⊥
@@ -98,31 +103,31 @@ lexed_apart f.NoMemory n l h = n refl
 lexed_apart f.Byte n l h = let e = l.allowed in let g = h.1 in cc
 lexed_apart f.Syntax n l h = h.2 _ l.cut
 lexed_apart f.Limit n l (inl h) = let e = l.short in absurd (omega arith)
-lexed_apart f.Limit n l (inr (_, _, d, h)) = one_answer _ (tokens_once l.cut d) l.small h
+lexed_apart f.Limit n l (inr (_, _, d, h)) = one_answer (list_all is_small) (tokens_once l.cut d) l.small h
 
 -- a line has at most one fault
-pub refused_once : {line : List ℕ} (i j : LexFault) → i ≢ f.NoMemory → j ≢ f.NoMemory → Refuses line i → Refuses line j → i ≡ j
-refused_once f.NoMemory j n m h g = absurd (n refl)
-refused_once f.Byte f.NoMemory n m h g = absurd (m refl)
-refused_once f.Syntax f.NoMemory n m h g = absurd (m refl)
-refused_once f.Limit f.NoMemory n m h g = absurd (m refl)
-refused_once f.Byte f.Byte n m h g = refl
-refused_once f.Syntax f.Syntax n m h g = refl
-refused_once f.Limit f.Limit n m h g = refl
-refused_once f.Byte f.Syntax n m h g = let e = h.1 in let d = g.1 in cc
-refused_once f.Syntax f.Byte n m h g = let e = h.1 in let d = g.1 in cc
-refused_once f.Byte f.Limit n m h (inl g) = absurd (omega (arith, h.0, g))
-refused_once f.Byte f.Limit n m h (inr g) = let e = h.1 in let d = g.0 in cc
-refused_once f.Limit f.Byte n m (inl h) g = absurd (omega (arith, h, g.0))
-refused_once f.Limit f.Byte n m (inr h) g = let e = h.0 in let d = g.1 in cc
-refused_once f.Syntax f.Limit n m h (inl g) = absurd (omega (arith, h.0, g))
-refused_once f.Syntax f.Limit n m h (inr (_, tokens, d, _)) = absurd (h.2 tokens d)
-refused_once f.Limit f.Syntax n m (inl h) g = absurd (omega (arith, h, g.0))
-refused_once f.Limit f.Syntax n m (inr (_, tokens, d, _)) g = absurd (g.2 tokens d)
+pub refused_once : (line : List ℕ) (i j : LexFault) → i ≢ f.NoMemory → j ≢ f.NoMemory → Refuses line i → Refuses line j → i ≡ j
+refused_once line f.NoMemory j n m h g = absurd (n refl)
+refused_once line f.Byte f.NoMemory n m h g = absurd (m refl)
+refused_once line f.Syntax f.NoMemory n m h g = absurd (m refl)
+refused_once line f.Limit f.NoMemory n m h g = absurd (m refl)
+refused_once line f.Byte f.Byte n m h g = refl
+refused_once line f.Syntax f.Syntax n m h g = refl
+refused_once line f.Limit f.Limit n m h g = refl
+refused_once line f.Byte f.Syntax n m h g = let e = h.1 in let d = g.1 in cc
+refused_once line f.Syntax f.Byte n m h g = let e = h.1 in let d = g.1 in cc
+refused_once line f.Byte f.Limit n m h (inl g) = absurd (omega (arith, h.0, g))
+refused_once line f.Byte f.Limit n m h (inr g) = let e = h.1 in let d = g.0 in cc
+refused_once line f.Limit f.Byte n m (inl h) g = absurd (omega (arith, h, g.0))
+refused_once line f.Limit f.Byte n m (inr h) g = let e = h.0 in let d = g.1 in cc
+refused_once line f.Syntax f.Limit n m h (inl g) = absurd (omega (arith, h.0, g))
+refused_once line f.Syntax f.Limit n m h (inr (_, tokens, d, _)) = absurd (h.2 tokens d)
+refused_once line f.Limit f.Syntax n m (inl h) g = absurd (omega (arith, h, g.0))
+refused_once line f.Limit f.Syntax n m (inr (_, tokens, d, _)) g = absurd (g.2 tokens d)
 
 pub one_lexing : OneLexing
 one_lexing = record {
   once = λ line a b l k. lexed_once l k;
   apart = λ line tokens fault n l h. lexed_apart fault n l h;
-  one_fault = λ line i j n m h g. refused_once i j n m h g;
+  one_fault = λ line i j n m h g. refused_once line i j n m h g;
 }

@@ -1,7 +1,8 @@
 -- What is cut is the longest piece.
-use Rattle.std.proofs.Common.{◌≡◌, ℕ, zero, suc, ◌+◌, ◌<◌, ◌≤◌, Bool, true, false, ◌&&◌, ◌||◌, cond, nat_eq, List, [], ◌∷◌, length, take, refl, ap, sym, ◌∙◌, arith, rules}
+use Rattle.std.proofs.Common.{◌≡◌, ℕ, zero, suc, ◌+◌, ◌<◌, ◌≤◌, Bool, true, false, ◌&&◌, ◌||◌, ◌==◌, cond, nat_eq, List, [], ◌∷◌, length, take, refl, ap, sym, ◌∙◌, arith, rules}
 use Rattle.std.proofs.lemmas.Grind.{common_steps}
-use Rattle.scr_text.specs.Piece.{is_letter, is_digit, is_word_byte, is_single, is_nothing, is_name_rest, is_digits, is_less_rest, is_piece, name_rest_len, digits_len, less_rest_len, piece_len, IsLongest, NoPiece, CutsLongest}
+use Rattle.std.specs.Char.{is_ascii_alphabetic, is_ascii_digit}
+use Rattle.scr_text.specs.Piece.{is_word_byte, is_single, is_nothing, is_byte, is_name_rest, is_digits, is_word_bytes, is_piece, name_rest_len, digits_len, word_bytes_len, starts, piece_len, IsLongest, NoPiece, CutsLongest}
 
 -- ---- the parts behind the first byte
 
@@ -17,18 +18,16 @@ run_more false q m n h d = cc
 digits_most : (bytes : List ℕ) (m : ℕ) → m ≤ length bytes → is_digits (take m bytes) ≡ true → m ≤ digits_len bytes
 digits_most bytes zero h d = omega arith
 digits_most [] (suc m) h d = h
-digits_most (b ∷ bytes) (suc m) h d = run_more (is_digit b) (is_digits (take m bytes)) m (digits_len bytes) (digits_most bytes m (omega arith)) d
+digits_most (b ∷ bytes) (suc m) h d = run_more (is_ascii_digit b) (is_digits (take m bytes)) m (digits_len bytes) (digits_most bytes m (omega arith)) d
 
-less_are : (bytes : List ℕ) → is_less_rest (take (less_rest_len bytes) bytes) ≡ true
-less_are [] = refl
-less_are (b ∷ bytes) = grind arith
+words_are : (bytes : List ℕ) → is_word_bytes (take (word_bytes_len bytes) bytes) ≡ true
+words_are [] = refl
+words_are (b ∷ bytes) = grind (arith, words_are bytes)
 
-less_most : (bytes : List ℕ) (m : ℕ) → m ≤ length bytes → is_less_rest (take m bytes) ≡ true → m ≤ less_rest_len bytes
-less_most bytes zero h d = omega arith
-less_most [] (suc m) h d = h
-less_most (b ∷ bytes) (suc zero) h d = grind arith
-less_most (b ∷ []) (suc (suc m)) h d = absurd (omega arith)
-less_most (b ∷ c ∷ bytes) (suc (suc m)) h d = grind arith
+words_most : (bytes : List ℕ) (m : ℕ) → m ≤ length bytes → is_word_bytes (take m bytes) ≡ true → m ≤ word_bytes_len bytes
+words_most bytes zero h d = omega arith
+words_most [] (suc m) h d = h
+words_most (b ∷ bytes) (suc m) h d = run_more (is_word_byte b) (is_word_bytes (take m bytes)) m (word_bytes_len bytes) (words_most bytes m (omega arith)) d
 
 name_are : (bytes : List ℕ) → is_name_rest (take (name_rest_len bytes) bytes) ≡ true
 name_are [] = refl
@@ -53,27 +52,82 @@ name_most bytes zero h d = omega arith
 name_most [] (suc m) h d = h
 name_most (b ∷ bytes) (suc m) h d = name_more (is_word_byte b) (is_name_rest (take m bytes)) (nat_eq b 39) (is_nothing (take m bytes)) m (name_rest_len bytes) (name_most bytes m (omega arith)) (nothing_most bytes m (omega arith)) d
 
+-- a sign of one byte or of two
+two : (p : Bool) (k m : ℕ) → p ≡ true → m ≡ 1 → suc m ≤ cond p 2 k
+two true k m h e = omega arith
+two false k m h e = cc
+
+one_or_two : (p : Bool) (m : ℕ) → m ≡ 0 → suc m ≤ cond p 2 1
+one_or_two true m e = omega arith
+one_or_two false m e = omega arith
+
+byte_alone : (p none : Bool) (m : ℕ) → (none ≡ true → m ≡ 0) → (p && none) ≡ true → (p ≡ true) × (suc m ≡ 1)
+byte_alone true true m h d = (refl, let e : m ≡ 0 = h refl in omega arith)
+byte_alone true false m h d = cc
+byte_alone false none m h d = cc
+
+-- the second byte of a sign
+byte_is : (x : ℕ) (bytes : List ℕ) → starts x bytes ≡ true → is_byte x (take 1 bytes) ≡ true
+byte_is x [] h = cc
+byte_is x (b ∷ bytes) h = grind arith
+
+byte_most : (x : ℕ) (bytes : List ℕ) (m : ℕ) → m ≤ length bytes → is_byte x (take m bytes) ≡ true → (starts x bytes ≡ true) × (m ≡ 1)
+byte_most x bytes zero h d = cc
+byte_most x [] (suc m) h d = absurd (omega arith)
+byte_most x (b ∷ bytes) (suc m) h d = byte_alone (b == x) (is_nothing (take m bytes)) m (nothing_most bytes m (omega arith)) d
+
 -- ---- a whole piece, by its first byte
+
+or_right : (p q : Bool) → q ≡ true → (p || q) ≡ true
+or_right true q h = refl
+or_right false q h = h
+
+-- by the class of the first byte (letter, digit, `@`, `<` or `>`, `!`, `.`, single), and of the second where it counts
+class_is : (l d a c e x s equal dot : Bool) (b : ℕ) (bytes : List ℕ) (test : List ℕ → Bool)
+    → ((rest : List ℕ) → test (b ∷ rest) ≡ cond l (is_name_rest rest) (cond d (is_digits rest) (cond a (is_word_bytes rest) (cond c (is_nothing rest || is_byte 61 rest) (cond e (is_byte 61 rest) (cond x (is_byte 46 rest) (s && is_nothing rest)))))))
+    → starts 61 bytes ≡ equal → starts 46 bytes ≡ dot
+    → 0 < cond l (suc (name_rest_len bytes)) (cond d (suc (digits_len bytes)) (cond a (suc (word_bytes_len bytes)) (cond c (cond equal 2 1) (cond e (cond equal 2 0) (cond x (cond dot 2 0) (cond s 1 0))))))
+    → test (take (cond l (suc (name_rest_len bytes)) (cond d (suc (digits_len bytes)) (cond a (suc (word_bytes_len bytes)) (cond c (cond equal 2 1) (cond e (cond equal 2 0) (cond x (cond dot 2 0) (cond s 1 0))))))) (b ∷ bytes)) ≡ true
+class_is true d a c e x s equal dot b bytes test at p q h = at _ ∙ name_are bytes
+class_is false true a c e x s equal dot b bytes test at p q h = at _ ∙ digits_are bytes
+class_is false false true c e x s equal dot b bytes test at p q h = at _ ∙ words_are bytes
+class_is false false false true e x s true dot b bytes test at p q h = at _ ∙ or_right _ _ (byte_is 61 bytes p)
+class_is false false false true e x s false dot b bytes test at p q h = at _
+class_is false false false false true x s true dot b bytes test at p q h = at _ ∙ byte_is 61 bytes p
+class_is false false false false true x s false dot b bytes test at p q h = absurd (omega arith)
+class_is false false false false false true s equal true b bytes test at p q h = at _ ∙ byte_is 46 bytes q
+class_is false false false false false true s equal false b bytes test at p q h = absurd (omega arith)
+class_is false false false false false false true equal dot b bytes test at p q h = at _
+class_is false false false false false false false equal dot b bytes test at p q h = absurd (omega arith)
 
 front_is : (b : ℕ) (bytes : List ℕ) → 0 < piece_len (b ∷ bytes) → is_piece (take (piece_len (b ∷ bytes)) (b ∷ bytes)) ≡ true
 unfolding piece_len
-front_is b bytes h = grind (arith, name_are bytes, digits_are bytes, less_are bytes)
+front_is b bytes h =
+    class_is (is_ascii_alphabetic b) (is_ascii_digit b) (b == 64) (b == 60 || b == 62) (b == 33) (b == 46) (is_single b) (starts 61 bytes) (starts 46 bytes) b bytes is_piece (λ rest. refl) refl refl h
 
-by_class : (l d e s n g q o : Bool) (m x y z : ℕ) → (n ≡ true → m ≤ x) → (g ≡ true → m ≤ y) → (q ≡ true → m ≤ z) → (o ≡ true → m ≡ 0)
-    → cond l n (cond d g (cond e q (s && o))) ≡ true → suc m ≤ cond l (suc x) (cond d (suc y) (cond e (suc z) (cond s 1 0)))
-by_class true d e s n g q o m x y z hn hg hq ho h = let k : m ≤ x = hn h in omega arith
-by_class false true e s n g q o m x y z hn hg hq ho h = let k : m ≤ y = hg h in omega arith
-by_class false false true s n g q o m x y z hn hg hq ho h = let k : m ≤ z = hq h in omega arith
-by_class false false false true n g q o m x y z hn hg hq ho h = let k : m ≡ 0 = ho h in omega arith
-by_class false false false false n g q o m x y z hn hg hq ho h = cc
+-- likewise, with what is known of the rest that each class takes
+by_class : (l d a c e x s : Bool) (name digits words none equal dot : Bool) (starts_equal starts_dot : Bool) (m p q r : ℕ)
+    → (name ≡ true → m ≤ p) → (digits ≡ true → m ≤ q) → (words ≡ true → m ≤ r) → (none ≡ true → m ≡ 0)
+    → (equal ≡ true → (starts_equal ≡ true) × (m ≡ 1)) → (dot ≡ true → (starts_dot ≡ true) × (m ≡ 1))
+    → cond l name (cond d digits (cond a words (cond c (none || equal) (cond e equal (cond x dot (s && none)))))) ≡ true
+    → suc m ≤ cond l (suc p) (cond d (suc q) (cond a (suc r) (cond c (cond starts_equal 2 1) (cond e (cond starts_equal 2 0) (cond x (cond starts_dot 2 0) (cond s 1 0))))))
+by_class true d a c e x s n g w o q t sq st m i j k hn hg hw ho hq ht h = let y : m ≤ i = hn h in omega arith
+by_class false true a c e x s n g w o q t sq st m i j k hn hg hw ho hq ht h = let y : m ≤ j = hg h in omega arith
+by_class false false true c e x s n g w o q t sq st m i j k hn hg hw ho hq ht h = let y : m ≤ k = hw h in omega arith
+by_class false false false true e x s n g w true q t sq st m i j k hn hg hw ho hq ht h = let y : m ≡ 0 = ho refl in one_or_two sq m y
+by_class false false false true e x s n g w false q t sq st m i j k hn hg hw ho hq ht h = let y = hq h in two sq 1 m y.0 y.1
+by_class false false false false true x s n g w o q t sq st m i j k hn hg hw ho hq ht h = let y = hq h in two sq 0 m y.0 y.1
+by_class false false false false false true s n g w o q t sq st m i j k hn hg hw ho hq ht h = let y = ht h in two st 0 m y.0 y.1
+by_class false false false false false false true n g w o q t sq st m i j k hn hg hw ho hq ht h = let y : m ≡ 0 = ho h in omega arith
+by_class false false false false false false false n g w o q t sq st m i j k hn hg hw ho hq ht h = cc
 
 front_most : (b : ℕ) (bytes : List ℕ) (m : ℕ) → m ≤ length (b ∷ bytes) → is_piece (take m (b ∷ bytes)) ≡ true → m ≤ piece_len (b ∷ bytes)
 unfolding piece_len
 front_most b bytes zero h d = omega arith
 front_most b bytes (suc m) h d =
     let less : m ≤ length bytes = omega arith in
-    by_class (is_letter b) (is_digit b) (nat_eq b 60) (is_single b) _ _ _ _ m _ _ _
-      (name_most bytes m less) (digits_most bytes m less) (less_most bytes m less) (nothing_most bytes m less) d
+    by_class (is_ascii_alphabetic b) (is_ascii_digit b) (b == 64) (b == 60 || b == 62) (b == 33) (b == 46) (is_single b) _ _ _ _ _ _ _ _ m _ _ _
+      (name_most bytes m less) (digits_most bytes m less) (words_most bytes m less) (nothing_most bytes m less) (byte_most 61 bytes m less) (byte_most 46 bytes m less) d
 
 if_not : (p : Bool) → (p ≡ true → ⊥) → p ≡ false
 if_not true h = absurd (h refl)

@@ -79,15 +79,10 @@ abbrev pub digits_len : List ℕ → ℕ
 digits_len [] = 0
 digits_len (b ∷ bytes) = if is_ascii_digit b then suc (digits_len bytes) else 0
 
--- 1 where this byte stands in front
-abbrev pub byte_len : ℕ → List ℕ → ℕ
-byte_len x [] = 0
-byte_len x (b ∷ bytes) = if b == x then 1 else 0
-
--- a sign of this byte and the one before it, where this byte stands in front
-abbrev pub pair_len : ℕ → List ℕ → ℕ
-pair_len x [] = 0
-pair_len x (b ∷ bytes) = if b == x then 2 else 0
+-- this byte stands in front
+abbrev pub starts : ℕ → List ℕ → Bool
+starts x [] = false
+starts x (b ∷ bytes) = b == x
 
 -- the length of the longest piece in front, or 0 where there is none
 unfoldable pub piece_len : List ℕ → ℕ
@@ -96,9 +91,9 @@ piece_len (b ∷ bytes) =
     if is_ascii_alphabetic b then suc (name_rest_len bytes)
     else (if is_ascii_digit b then suc (digits_len bytes)
     else (if b == 64 then suc (word_bytes_len bytes)
-    else (if b == 60 || b == 62 then suc (byte_len 61 bytes)
-    else (if b == 33 then pair_len 61 bytes
-    else (if b == 46 then pair_len 46 bytes
+    else (if b == 60 || b == 62 then (if starts 61 bytes then 2 else 1)
+    else (if b == 33 then (if starts 61 bytes then 2 else 0)
+    else (if b == 46 then (if starts 46 bytes then 2 else 0)
     else (if is_single b then 1 else 0))))))
 
 -- the length is that of the longest piece in front, or 0 where there is none

@@ -1,6 +1,6 @@
 //! Cuts the longest piece in front.
 
-ghost use Rattle.std.specs.Prelude.{◌≡◌, ◌≤◌, ◌+◌, [], ◌∷◌, length, MatchOption};
+ghost use Rattle.std.specs.Prelude.{◌≡◌, ◌≤◌, [], ◌∷◌, length, MatchOption};
 ghost use Rattle.scr_text.specs.Piece as spec;
 
 fn is_word_byte(b: u8) -> bool
@@ -55,23 +55,12 @@ fn digits_len(bytes: &[u8]) -> usize
     n
 }
 
-fn byte_len(byte: u8, bytes: &[u8]) -> usize
-    ensures value { result ≡ spec.byte_len byte bytes.now }
-    ensures within { result ≤ length bytes.now }
+fn starts(bytes: &[u8], byte: u8) -> bool
+    ensures { result ≡ spec.starts byte bytes.now }
 {
     match first_and_rest(bytes) {
-        Some((first, _)) if first == byte => 1,
-        _ => 0,
-    }
-}
-
-fn pair_len(byte: u8, bytes: &[u8]) -> usize
-    ensures value { result ≡ spec.pair_len byte bytes.now }
-    ensures within { result ≤ length bytes.now + 1 }
-{
-    match first_and_rest(bytes) {
-        Some((first, _)) if first == byte => 2,
-        _ => 0,
+        Some((first, _)) => first == byte,
+        None => false,
     }
 }
 
@@ -100,11 +89,11 @@ fn front_len(bytes: &[u8]) -> usize
             } else if b == b'@' {
                 1 + word_bytes_len(rest)
             } else if b == b'<' || b == b'>' {
-                1 + byte_len(b'=', rest)
+                if starts(rest, b'=') { 2 } else { 1 }
             } else if b == b'!' {
-                pair_len(b'=', rest)
+                if starts(rest, b'=') { 2 } else { 0 }
             } else if b == b'.' {
-                pair_len(b'.', rest)
+                if starts(rest, b'.') { 2 } else { 0 }
             } else if is_single(b) {
                 1
             } else {
