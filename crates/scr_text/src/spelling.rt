@@ -1,6 +1,8 @@
 //! The word that a piece stands for.
 
 ghost use Rattle.std.specs.Prelude.{◌≡◌, ◌<◌, ◌≤◌, length, pos, IfOk};
+ghost use Rattle.std.specs.Map.{lookup};
+ghost use Rattle.std.specs.Str.{bytes_eq};
 ghost use Rattle.scr_text.specs.Words as spec;
 
 use crate::word::{Keyword, Sign, Word};
@@ -10,9 +12,9 @@ use std::alloc::Global;
 /// The greatest number of a line.
 pub(crate) const NUMBER_LIMIT: u32 = 1_000_000;
 
-#[tactic(auto, unfolding(crate::specs::Words::keyword_of))]
-fn keyword_of(bytes: &[u8]) -> Option<Keyword>
-    ensures { result ≡ spec.keyword_of bytes.now }
+#[tactic(auto, unfolding(crate::specs::Words::declaration_words))]
+fn declaration_word(bytes: &[u8]) -> Option<Keyword>
+    ensures { result ≡ lookup (bytes_eq bytes.now) spec.declaration_words }
 {
     if bytes == b"SPECIFICATION".as_slice() {
         Some(Keyword::Specification)
@@ -30,7 +32,26 @@ fn keyword_of(bytes: &[u8]) -> Option<Keyword>
         Some(Keyword::Controlled)
     } else if bytes == b"INIT".as_slice() {
         Some(Keyword::Init)
-    } else if bytes == b"CONDITION".as_slice() {
+    } else if bytes == b"BOOLEAN".as_slice() {
+        Some(Keyword::Boolean)
+    } else if bytes == b"NAT".as_slice() {
+        Some(Keyword::Nat)
+    } else if bytes == b"STEP".as_slice() {
+        Some(Keyword::Step)
+    } else if bytes == b"FINISH".as_slice() {
+        Some(Keyword::Finish)
+    } else if bytes == b"ASSERT".as_slice() {
+        Some(Keyword::Assert)
+    } else {
+        None
+    }
+}
+
+#[tactic(auto, unfolding(crate::specs::Words::table_words))]
+fn table_word(bytes: &[u8]) -> Option<Keyword>
+    ensures { result ≡ lookup (bytes_eq bytes.now) spec.table_words }
+{
+    if bytes == b"CONDITION".as_slice() {
         Some(Keyword::Condition)
     } else if bytes == b"EVENT".as_slice() {
         Some(Keyword::Event)
@@ -48,8 +69,6 @@ fn keyword_of(bytes: &[u8]) -> Option<Keyword>
         Some(Keyword::To)
     } else if bytes == b"END".as_slice() {
         Some(Keyword::End)
-    } else if bytes == b"FINISH".as_slice() {
-        Some(Keyword::Finish)
     } else if bytes == b"AND".as_slice() {
         Some(Keyword::And)
     } else if bytes == b"OR".as_slice() {
@@ -64,65 +83,46 @@ fn keyword_of(bytes: &[u8]) -> Option<Keyword>
         Some(Keyword::When)
     } else if bytes == b"NEVER".as_slice() {
         Some(Keyword::Never)
-    } else if bytes == b"BOOLEAN".as_slice() {
-        Some(Keyword::Boolean)
-    } else if bytes == b"NAT".as_slice() {
-        Some(Keyword::Nat)
-    } else if bytes == b"STEP".as_slice() {
-        Some(Keyword::Step)
-    } else if bytes == b"ASSERT".as_slice() {
-        Some(Keyword::Assert)
     } else {
         None
     }
 }
 
-#[tactic(auto, unfolding(crate::specs::Words::sign_of))]
+fn keyword_of(bytes: &[u8]) -> Option<Keyword>
+    ensures { result ≡ spec.keyword_of bytes.now }
+{
+    match declaration_word(bytes) {
+        Some(keyword) => Some(keyword),
+        None => table_word(bytes),
+    }
+}
+
+#[tactic(auto, unfolding(crate::specs::Words::signs))]
 fn sign_of(bytes: &[u8]) -> Option<Sign>
     ensures { result ≡ spec.sign_of bytes.now }
 {
-    if bytes == b"@T".as_slice() {
-        Some(Sign::AtT)
-    } else if bytes == b"@F".as_slice() {
-        Some(Sign::AtF)
-    } else if bytes == b"@C".as_slice() {
-        Some(Sign::AtC)
-    } else if bytes == b"(".as_slice() {
-        Some(Sign::OpenParen)
-    } else if bytes == b")".as_slice() {
-        Some(Sign::CloseParen)
-    } else if bytes == b"{".as_slice() {
-        Some(Sign::OpenBrace)
-    } else if bytes == b"}".as_slice() {
-        Some(Sign::CloseBrace)
-    } else if bytes == b",".as_slice() {
-        Some(Sign::Comma)
-    } else if bytes == b":".as_slice() {
-        Some(Sign::Colon)
-    } else if bytes == b"|".as_slice() {
-        Some(Sign::Bar)
-    } else if bytes == b"=".as_slice() {
-        Some(Sign::Equal)
-    } else if bytes == b"!=".as_slice() {
-        Some(Sign::Differ)
-    } else if bytes == b"<".as_slice() {
-        Some(Sign::Less)
-    } else if bytes == b"<=".as_slice() {
-        Some(Sign::AtMost)
-    } else if bytes == b">".as_slice() {
-        Some(Sign::Greater)
-    } else if bytes == b">=".as_slice() {
-        Some(Sign::AtLeast)
-    } else if bytes == b"+".as_slice() {
-        Some(Sign::Plus)
-    } else if bytes == b"-".as_slice() {
-        Some(Sign::Minus)
-    } else if bytes == b"*".as_slice() {
-        Some(Sign::Times)
-    } else if bytes == b"..".as_slice() {
-        Some(Sign::Dots)
-    } else {
-        None
+    match bytes {
+        b"@T" => Some(Sign::AtT),
+        b"@F" => Some(Sign::AtF),
+        b"@C" => Some(Sign::AtC),
+        b"(" => Some(Sign::OpenParen),
+        b")" => Some(Sign::CloseParen),
+        b"{" => Some(Sign::OpenBrace),
+        b"}" => Some(Sign::CloseBrace),
+        b"," => Some(Sign::Comma),
+        b":" => Some(Sign::Colon),
+        b"|" => Some(Sign::Bar),
+        b"=" => Some(Sign::Equal),
+        b"!=" => Some(Sign::Differ),
+        b"<" => Some(Sign::Less),
+        b"<=" => Some(Sign::AtMost),
+        b">" => Some(Sign::Greater),
+        b">=" => Some(Sign::AtLeast),
+        b"+" => Some(Sign::Plus),
+        b"-" => Some(Sign::Minus),
+        b"*" => Some(Sign::Times),
+        b".." => Some(Sign::Dots),
+        _ => None,
     }
 }
 
