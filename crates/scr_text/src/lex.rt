@@ -1,7 +1,7 @@
 //! Cuts a line into tokens.
 
-ghost use Rattle.std.specs.Prelude.{◌≡◌, ◌+◌, ◌-◌, ◌≤◌, ◌<◌, ℕ, List, [], ◌∷◌, length, take, drop, slice_index, IfOk, MatchOption, MatchResult, Err, Some, None};
-ghost use Rattle.std.specs.List.{list_all};
+ghost use Rattle.std.specs.Prelude.{◌≡◌, ◌+◌, ◌-◌, ◌≤◌, ◌<◌, ℕ, ◌==◌, not, List, [], ◌∷◌, length, take, drop, slice_index, IfOk, MatchOption, MatchResult, Err, Some, None};
+ghost use Rattle.std.specs.List.{list_all, prefix_len};
 ghost use Rattle.scr_text.specs.declared.word.Token.{Token};
 ghost use Rattle.scr_text.specs.Piece.{is_blank};
 ghost use Rattle.scr_text.specs.Tokens as spec;
@@ -63,14 +63,10 @@ fn is_allowed(b: u8) -> bool
 }
 
 fn comment_at(line: &[u8]) -> usize
-    ensures value { result ≡ spec.comment_at line.now }
+    ensures value { result ≡ prefix_len (λ b. not (b == 35)) line.now }
     ensures within { result ≤ length line.now }
 {
-    let mut n = 0;
-    while n < line.len() && line[n] != b'#' {
-        n += 1;
-    }
-    n
+    line.iter().take_while(|b| **b != b'#').count()
 }
 
 /// What stands before a comment.

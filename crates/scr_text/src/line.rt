@@ -1,6 +1,6 @@
 //! Cuts a text into lines.
 
-ghost use Rattle.std.specs.Prelude.{◌≡◌, ◌≤◌, ◌<◌, ◌+◌, ◌-◌, ◌∷◌, [], length, take, drop, slice_range};
+ghost use Rattle.std.specs.Prelude.{◌≡◌, ◌≤◌, ◌<◌, ◌+◌, ◌-◌, ◌∷◌, [], length, take, drop, slice_index, slice_range, ◌⊎◌};
 ghost use Rattle.scr_text.specs.Lines as spec;
 
 /// Where a line of a text stands: it ends before `stop`, and the next one begins at `next`.
@@ -13,12 +13,9 @@ pub struct Cut {
 fn feed_at(text: &[u8]) -> usize
     ensures value { result ≡ spec.feed_at text.now }
     ensures within { result ≤ length text.now }
+    ensures feed { (result ≡ length text.now) ⊎ (slice_index text.now result ≡ 10) }
 {
-    let mut n = 0;
-    while n < text.len() && text[n] != b'\n' {
-        n += 1;
-    }
-    n
+    text.iter().take_while(|b| **b != b'\n').count()
 }
 
 fn strip_return(piece: &[u8]) -> &[u8]
@@ -53,6 +50,7 @@ pub fn cut_line(text: &[u8]) -> (&[u8], &[u8])
     ensures shorter { length result.1.now < length text.now }
     ensures front { result.0.now ≡ take (length result.0.now) text.now }
     ensures back { result.1.now ≡ drop (length text.now - length result.1.now) text.now }
+    ensures behind { spec.IsBehindFeed text.now (length text.now - length result.1.now) }
     ensures apart { length result.0.now + length result.1.now ≤ length text.now }
 {
     let (piece, rest) = text.split_at(feed_at(text));

@@ -1,6 +1,8 @@
 //! Cuts the longest piece in front.
 
 ghost use Rattle.std.specs.Prelude.{◌≡◌, ◌≤◌, [], ◌∷◌, length, MatchOption};
+ghost use Rattle.std.specs.Char.{is_ascii_digit};
+ghost use Rattle.std.specs.List.{prefix_len};
 ghost use Rattle.scr_text.specs.Piece as spec;
 
 fn is_word_byte(b: u8) -> bool
@@ -19,14 +21,10 @@ fn is_single(b: u8) -> bool
 }
 
 fn word_bytes_len(bytes: &[u8]) -> usize
-    ensures value { result ≡ spec.word_bytes_len bytes.now }
+    ensures value { result ≡ prefix_len spec.is_word_byte bytes.now }
     ensures within { result ≤ length bytes.now }
 {
-    let mut n = 0;
-    while n < bytes.len() && is_word_byte(bytes[n]) {
-        n += 1;
-    }
-    n
+    bytes.iter().take_while(|b| is_word_byte(**b)).count()
 }
 
 fn name_rest_len(bytes: &[u8]) -> usize
@@ -45,14 +43,10 @@ fn name_rest_len(bytes: &[u8]) -> usize
 }
 
 fn digits_len(bytes: &[u8]) -> usize
-    ensures value { result ≡ spec.digits_len bytes.now }
+    ensures value { result ≡ prefix_len is_ascii_digit bytes.now }
     ensures within { result ≤ length bytes.now }
 {
-    let mut n = 0;
-    while n < bytes.len() && bytes[n].is_ascii_digit() {
-        n += 1;
-    }
-    n
+    bytes.iter().take_while(|b| b.is_ascii_digit()).count()
 }
 
 fn starts(bytes: &[u8], byte: u8) -> bool
