@@ -1,5 +1,5 @@
 -- A line is cut into tokens in one way.
-use Rattle.std.proofs.Common.{◌≡◌, ◌≢◌, ℕ, zero, suc, ◌+◌, ◌<◌, ◌≤◌, Bool, true, false, ◌&&◌, ◌||◌, cond, nat_eq, List, [], ◌∷◌, ◌++◌, length, take, drop, Option, Some, None, refl, ap, sym, subst, ◌∙◌, inl, inr, ◌⊎◌, eqb-true, arith, rules}
+use Rattle.std.proofs.Common.{◌≡◌, ◌≢◌, ℕ, zero, suc, ◌+◌, ◌<◌, Bool, true, false, ◌||◌, nat_eq, List, [], ◌∷◌, take, drop, Some, None, refl, ap, sym, subst, ◌∙◌, inl, inr, ◌⊎◌, eqb-true, arith}
 use Rattle.std.specs.List.{list_all}
 use Rattle.scr_text.specs.declared.fault.LexFault.{LexFault}
 use Rattle.scr_text.specs.declared.fault.LexFault.TheVariants as f
@@ -24,8 +24,9 @@ by_tests false q h = inr h
 blank_begins : (b n : ℕ) (bytes : List ℕ) → is_blank b ≡ true → is_piece (take n (b ∷ bytes)) ≡ true → ⊥
 blank_begins b zero bytes h p = cc
 blank_begins b (suc n) bytes h p = elim (by_tests (nat_eq b 32) (nat_eq b 9) h) [
-    inl e ↦ let is : b ≡ 32 = eqb-true b 32 e in let q = rw is at p in cc
-  | inr e ↦ let is : b ≡ 9 = eqb-true b 9 e in let q = rw is at p in cc ]
+  | inl e ↦ let is : b ≡ 32 = eqb-true b 32 e in let q = rw is at p in cc
+  | inr e ↦ let is : b ≡ 9 = eqb-true b 9 e in let q = rw is at p in cc
+]
 
 -- the longest piece has one length
 pub longest_once : {bytes : List ℕ} {n m : ℕ} → IsLongest bytes n → IsLongest bytes m → n ≡ m

@@ -1,9 +1,8 @@
 -- What is cut off a line is the longest piece.
-use Rattle.std.proofs.Common.{◌≡◌, ℕ, zero, suc, ◌+◌, ◌<◌, ◌≤◌, Bool, true, false, ◌&&◌, ◌||◌, ◌==◌, cond, nat_eq, List, [], ◌∷◌, length, take, refl, ap, sym, ◌∙◌, arith, rules}
-use Rattle.std.proofs.lemmas.Grind.{common_steps}
+use Rattle.std.proofs.Common.{◌≡◌, ℕ, zero, suc, ◌+◌, ◌<◌, ◌≤◌, Bool, true, false, ◌&&◌, ◌||◌, ◌==◌, cond, nat_eq, List, [], ◌∷◌, length, take, drop, refl, ◌∙◌, arith}
 use Rattle.std.specs.Char.{is_ascii_alphabetic, is_ascii_digit}
 use Rattle.std.specs.List.{list_all, prefix_len}
-use Rattle.scr_text.specs.Piece.{is_word_byte, is_single, is_nothing, is_byte, is_name_rest, is_piece, name_rest_len, starts, piece_len, IsLongest, NoPiece, CutsLongest}
+use Rattle.scr_text.specs.Piece.{is_word_byte, is_single, is_nothing, is_byte, is_name_rest, is_piece, name_rest_len, starts, piece_len, CutsLongest}
 
 -- ---- the parts behind the first byte
 
@@ -55,6 +54,22 @@ name_most : (bytes : List ℕ) (m : ℕ) → m ≤ length bytes → is_name_rest
 name_most bytes zero h d = omega arith
 name_most [] (suc m) h d = h
 name_most (b ∷ bytes) (suc m) h d = name_more (is_word_byte b) (is_name_rest (take m bytes)) (nat_eq b 39) (is_nothing (take m bytes)) m (name_rest_len bytes) (name_most bytes m (omega arith)) (nothing_most bytes m (omega arith)) d
+
+-- one byte more, at a prime or not
+suc_if : (prime : Bool) (k : ℕ) → suc (cond prime (k + 1) k) ≡ cond prime (suc k + 1) (suc k)
+suc_if true k = omega arith
+suc_if false k = refl
+
+-- one byte more in front of a name
+name_run_step : (word : Bool) (b m k : ℕ) (bytes : List ℕ) → m ≡ suc k → name_rest_len bytes ≡ cond (starts 39 (drop k bytes)) (k + 1) k
+    → cond word (suc (name_rest_len bytes)) (cond (nat_eq b 39) 1 0) ≡ cond (starts 39 (drop (cond word m 0) (b ∷ bytes))) (cond word m 0 + 1) (cond word m 0)
+name_run_step true b m k bytes e h = rw (e, h) (suc_if (starts 39 (drop k bytes)) k)
+name_run_step false b m k bytes e h = refl
+
+-- a name goes on as far as letters, digits and `_` do, and a prime behind them
+pub name_run : (bytes : List ℕ) → name_rest_len bytes ≡ cond (starts 39 (drop (prefix_len is_word_byte bytes) bytes)) (prefix_len is_word_byte bytes + 1) (prefix_len is_word_byte bytes)
+name_run [] = refl
+name_run (b ∷ bytes) = name_run_step (is_word_byte b) b (1 + prefix_len is_word_byte bytes) (prefix_len is_word_byte bytes) bytes (omega arith) (name_run bytes)
 
 -- a sign of one byte or of two
 two : (p : Bool) (k m : ℕ) → p ≡ true → m ≡ 1 → suc m ≤ cond p 2 k
@@ -137,7 +152,7 @@ front_most b bytes zero h d = omega arith
 front_most b bytes (suc m) h d =
     let less : m ≤ length bytes = omega arith in
     by_class (is_ascii_alphabetic b) (is_ascii_digit b) (b == 64) (b == 60 || b == 62) (b == 33) (b == 46) (is_single b) _ _ _ _ _ _ _ _ m _ _ _
-      (name_most bytes m less) (run_most is_ascii_digit bytes m less) (run_most is_word_byte bytes m less) (nothing_most bytes m less) (byte_most 61 bytes m less) (byte_most 46 bytes m less) d
+    (name_most bytes m less) (run_most is_ascii_digit bytes m less) (run_most is_word_byte bytes m less) (nothing_most bytes m less) (byte_most 61 bytes m less) (byte_most 46 bytes m less) d
 
 -- a test that cannot hold fails
 if_not : (p : Bool) → (p ≡ true → ⊥) → p ≡ false

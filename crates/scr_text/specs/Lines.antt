@@ -1,5 +1,5 @@
 -- The lines of a text.
-use Rattle.std.specs.Prelude.{◌≡◌, ℕ, zero, suc, ◌+◌, ◌-◌, ◌<◌, ◌≤◌, ◌⊎◌, Bool, not, if◌then◌else◌, ◌==◌, List, [], ◌∷◌, length, slice_index, slice_range, take, drop, map}
+use Rattle.std.specs.Prelude.{◌≡◌, ℕ, ◌-◌, ◌<◌, ◌≤◌, ◌⊎◌, not, if◌then◌else◌, ◌==◌, List, [], ◌∷◌, length, slice_index, slice_range, take, drop, map}
 use Rattle.std.specs.List.{prefix_len}
 
 -- a byte in front of the first piece

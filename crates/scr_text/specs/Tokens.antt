@@ -1,5 +1,5 @@
 -- The tokens of a line, and which lines are refused.
-use Rattle.std.specs.Prelude.{◌≡◌, ℕ, suc, ◌+◌, ◌<◌, ◌≤◌, ◌⊎◌, pos, ◌≤ℤ◌, int_le, Bool, not, true, false, ◌&&◌, ◌||◌, if◌then◌else◌, ◌==◌, nat_le, List, [], ◌∷◌, length, take, drop, Some}
+use Rattle.std.specs.Prelude.{◌≡◌, ℕ, ◌+◌, ◌<◌, ◌≤◌, ◌⊎◌, pos, int_le, Bool, not, true, false, ◌&&◌, ◌||◌, ◌==◌, nat_le, List, [], ◌∷◌, length, take, drop, Some}
 use Rattle.std.specs.List.{list_all, take_while}
 use Rattle.scr_text.specs.declared.fault.LexFault.{LexFault}
 use Rattle.scr_text.specs.declared.fault.LexFault.TheVariants as f

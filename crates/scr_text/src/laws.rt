@@ -4,5 +4,4 @@ ghost use Rattle.scr_text.specs.Lexing.{OneLexing};
 /// A line is read in one way: it has one list of tokens, or one fault.
 pub fn one_lexing()
     ensures { OneLexing }
-{
-}
+{}

@@ -1,6 +1,6 @@
 //! Cuts the longest piece in front.
 
-ghost use Rattle.std.specs.Prelude.{◌≡◌, ◌≤◌, [], ◌∷◌, length, MatchOption};
+ghost use Rattle.std.specs.Prelude.{◌≡◌, ◌≤◌, ◌<◌, [], ◌∷◌, length, MatchOption, IsTrue};
 ghost use Rattle.std.specs.Char.{is_ascii_digit};
 ghost use Rattle.std.specs.List.{prefix_len};
 ghost use Rattle.scr_text.specs.Piece as spec;
@@ -27,21 +27,6 @@ fn word_bytes_len(bytes: &[u8]) -> usize
     bytes.iter().take_while(|b| is_word_byte(**b)).count()
 }
 
-fn name_rest_len(bytes: &[u8]) -> usize
-    ensures value { result ≡ spec.name_rest_len bytes.now }
-    ensures within { result ≤ length bytes.now }
-{
-    let mut n = 0;
-    while n < bytes.len() && is_word_byte(bytes[n]) {
-        n += 1;
-    }
-    if n < bytes.len() && bytes[n] == b'\'' {
-        n + 1
-    } else {
-        n
-    }
-}
-
 fn digits_len(bytes: &[u8]) -> usize
     ensures value { result ≡ prefix_len is_ascii_digit bytes.now }
     ensures within { result ≤ length bytes.now }
@@ -50,12 +35,23 @@ fn digits_len(bytes: &[u8]) -> usize
 }
 
 fn starts(bytes: &[u8], byte: u8) -> bool
-    ensures { result ≡ spec.starts byte bytes.now }
+    ensures value { result ≡ spec.starts byte bytes.now }
+    ensures some { IsTrue result → 0 < length bytes.now }
 {
     match first_and_rest(bytes) {
         Some((first, _)) => first == byte,
         None => false,
     }
+}
+
+#[tactic(auto, using(crate::proofs::Longest::name_run))]
+fn name_rest_len(bytes: &[u8]) -> usize
+    ensures value { result ≡ spec.name_rest_len bytes.now }
+    ensures within { result ≤ length bytes.now }
+{
+    let n = word_bytes_len(bytes);
+    let (_, rest) = bytes.split_at(n);
+    if starts(rest, b'\'') { n + 1 } else { n }
 }
 
 /// The first byte, and the bytes behind it.

@@ -1,9 +1,7 @@
-use Rattle.std.proofs.Common.{rules, arith, ◌≡◌, ◌<◌, ◌≤◌, ◌+◌, ℕ, suc, true, false, List, [], ◌∷◌, ◌++◌, length, take, drop, Option, Some, None, sym, ap, subst, ◌∙◌, refl, append_assoc}
+use Rattle.std.proofs.Common.{arith, ◌≡◌, true, false, [], ◌∷◌, length, take, drop, Some, None, sym, ap, ◌∙◌, append_assoc}
 use Rattle.std.proofs.lemmas.List.{append-nil}
-use Rattle.scr_text.specs.declared.word.Word.{Word}
-use Rattle.scr_text.specs.declared.word.Token.{Token}
 use Rattle.scr_text.specs.Piece.{is_blank, IsLongest, NoPiece}
-use Rattle.scr_text.specs.Tokens.{Tokens, no_more, blank, piece}
+use Rattle.scr_text.specs.Tokens.{no_more, blank, piece}
 use Rattle.scr_text.specs.Words.{word_of}
 use Rattle.scr_text.proofs.Cutting.{tokens_at, after_blank, after_piece, no_word, no_piece}
 use Rattle.scr_text.proofs.lex.tokens_of.Goals as goal

@@ -1,4 +1,4 @@
-use Rattle.std.proofs.Common.{◌≡◌, ◌≤◌, ◌-◌, ◌+◌, ℕ, List, length, ◌++◌}
+use Rattle.std.proofs.Common.{◌≡◌, ◌+◌, List, length, ◌++◌}
 use Rattle.scr_text.specs.declared.word.Token.{Token}
 use Rattle.scr_text.specs.Tokens.{Tokens}
 use Rattle.scr_text.proofs.lex.tokens_of.Given as goal

@@ -1,6 +1,3 @@
-use Rattle.std.proofs.Common.{◌≡◌, ℕ, suc, ◌+◌, ◌-◌, ◌<◌, ◌≤◌, List, [], ◌∷◌, length, take, drop, refl, ap, sym, ◌∙◌, arith, add-one}
-use Rattle.std.proofs.lemmas.Grind.{common_steps}
-use Rattle.scr_text.specs.Lines.{lines, without_return, feed_at}
 use Rattle.scr_text.proofs.FirstLine.{lines_after}
 use Rattle.scr_text.proofs.line.cut_line.Goals as goal
 
