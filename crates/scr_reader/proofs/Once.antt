@@ -74,10 +74,10 @@ item_once false_item (reference q) = elim q [ ]
 item_once false_item false_item = (refl, refl)
 
 -- no item begins with a sign
-no_item : {primes : Bool} {sign : Sign} {from rest : List Word} {a : DraftItem} → Item primes (w.Sign sign ∷ from) a rest → ⊥
+pub no_item : {primes : Bool} {sign : Sign} {from rest : List Word} {a : DraftItem} → Item primes (w.Sign sign ∷ from) a rest → ⊥
 no_item (reference p) = elim p [ ]
 
-more_from : {primes : Bool} {a b rest : List Word} {items : List DraftItem} → a ≡ b → More primes b items rest → More primes a items rest
+pub more_from : {primes : Bool} {a b rest : List Word} {items : List DraftItem} → a ≡ b → More primes b items rest → More primes a items rest
 more_from {primes} {rest = rest} {items = items} e l = subst (λ from. More primes from items rest) (sym e) l
 
 pub more_once : {primes : Bool} {from rest other : List Word} {items more : List DraftItem} → More primes from items rest → More primes from more other

@@ -2,7 +2,9 @@
 #![tactic(auto)]
 
 mod draft;
+mod fault;
 mod place;
+mod side;
 mod step;
 
 pub use draft::{
