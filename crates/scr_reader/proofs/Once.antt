@@ -99,10 +99,10 @@ side_once (minus_side l ls) (minus_side m ms) = let e = item_once l m in let f =
 -- ---- conditions
 
 -- no side begins with a reserved word but TRUE or FALSE, or with a parenthesis
-no_side_not : {primes : Bool} {from rest : List Word} {l : DraftSide} → Side primes (w.Reserved k.Not ∷ from) l rest → ⊥
+pub no_side_not : {primes : Bool} {from rest : List Word} {l : DraftSide} → Side primes (w.Reserved k.Not ∷ from) l rest → ⊥
 no_side_not (side (reference p) ls) = elim p [ ]
 
-no_side_open : {primes : Bool} {from rest : List Word} {l : DraftSide} → Side primes (w.Sign s.OpenParen ∷ from) l rest → ⊥
+pub no_side_open : {primes : Bool} {from rest : List Word} {l : DraftSide} → Side primes (w.Sign s.OpenParen ∷ from) l rest → ⊥
 no_side_open (side l ls) = no_item l
 
 -- the words behind a first one

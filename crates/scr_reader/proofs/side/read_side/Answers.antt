@@ -1,7 +1,7 @@
 use Rattle.std.proofs.Common.{arith, append_assoc}
 use Rattle.std.proofs.lemmas.Result.{err_from_is_err_and}
 use Rattle.scr_reader.specs.Sides.{no_more}
-use Rattle.scr_reader.proofs.Faults.{handed_on}
+use Rattle.scr_reader.proofs.Reading.{handed_on}
 use Rattle.scr_reader.proofs.SideSteps.{signed, side_of_signed, signed_of_side, joined, after_joint, first_item}
 use Rattle.scr_reader.proofs.side.read_side.Goals as goal
 
