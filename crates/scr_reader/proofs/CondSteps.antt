@@ -8,10 +8,10 @@ use Rattle.scr_text.specs.declared.word.Keyword.TheVariants as k
 use Rattle.scr_reader.specs.declared.draft.DraftSide.{DraftSide}
 use Rattle.scr_reader.specs.declared.draft.DraftCond.{DraftCond}
 use Rattle.scr_reader.specs.declared.draft.DraftCond.TheVariants as c
-use Rattle.scr_reader.specs.Words.{sign_of, NotAt}
+use Rattle.scr_reader.specs.Words.{sign_of}
 use Rattle.scr_reader.specs.Sides.{Side}
 use Rattle.scr_reader.specs.Conds.{any_of, Lit, alone, compare, negated, nested, Conj, last_lit, lit_and, Cond, last_conj, conj_or}
-use Rattle.scr_reader.proofs.Once.{no_side_not, no_side_open, behind, side_once, side_from, lit_once, conj_from, conj_once, cond_from, cond_once}
+use Rattle.scr_reader.proofs.Once.{no_side_not, no_side_open, behind, side_once, side_from, lit_once, conj_from, conj_once, cond_from}
 
 -- ---- the same part, from or to equal words
 
@@ -60,9 +60,9 @@ pub behind_not : {primes : Bool} {from next rest : List Word} {d : DraftCond} �
     → (e : DraftCond) × Lit primes next e rest
 behind_not e l = inner_lit (lit_from (sym e) l)
 
-pub nested_at : {primes : Bool} {from next after rest : List Word} {ds : List DraftCond} {d : DraftCond} → from ≡ w.Sign s.OpenParen ∷ next → Cond primes next ds after
-    → after ≡ w.Sign s.CloseParen ∷ rest → d ≡ any_of ds → Lit primes from d rest
-nested_at e l f g = rw g (lit_from e (nested (cond_to l f)))
+pub nested_at : {primes : Bool} {from next rest : List Word} {ds : List DraftCond} {d : DraftCond} → from ≡ w.Sign s.OpenParen ∷ next
+    → Cond primes next ds (w.Sign s.CloseParen ∷ rest) → d ≡ any_of ds → Lit primes from d rest
+nested_at e l g = rw g (lit_from e (nested l))
 
 inner_cond : {primes : Bool} {next rest : List Word} {d : DraftCond} → Lit primes (w.Sign s.OpenParen ∷ next) d rest
     → (ds : List DraftCond) × Cond primes next ds (w.Sign s.CloseParen ∷ rest)
@@ -74,10 +74,6 @@ inner_cond (nested l) = (_, l)
 pub behind_open : {primes : Bool} {from next rest : List Word} {d : DraftCond} → from ≡ w.Sign s.OpenParen ∷ next → Lit primes from d rest
     → (ds : List DraftCond) × Cond primes next ds (w.Sign s.CloseParen ∷ rest)
 behind_open e l = inner_cond (lit_from (sym e) l)
-
-pub not_closed : {primes : Bool} {from next after rest : List Word} {ds : List DraftCond} {d : DraftCond} → from ≡ w.Sign s.OpenParen ∷ next → Cond primes next ds after
-    → NotAt (w.Sign s.CloseParen) after → Lit primes from d rest → ⊥
-not_closed e l h m = let f = cond_once l (behind_open e m).1 in h _ f.1
 
 -- ---- AND and OR
 

@@ -1,6 +1,6 @@
 //! Reads conditions.
 
-ghost use Rattle.std.specs.Prelude.{◌≡◌, ◌<◌, List, length, IfOk};
+ghost use Rattle.std.specs.Prelude.{◌≡◌, ◌<◌, List, ◌∷◌, length, IfOk};
 ghost use Rattle.scr_text.specs.declared.word.Word.{Word};
 ghost use Rattle.scr_reader.specs.Words.{words, NotAt};
 ghost use Rattle.scr_reader.specs.Conds as spec;
@@ -73,13 +73,28 @@ fn read_lit(
         return Ok((DraftCond::Not(Boxed::new(alloc, inner)?), rest));
     }
     if let Some(from) = past_sign(tokens, Sign::OpenParen) {
-        let (members, after) = read_cond(alloc, primes, from)?;
-        return match past_sign(after, Sign::CloseParen) {
-            Some(rest) => Ok((any_of(members), rest)),
-            None => Err(FormFault::Refused),
-        };
+        return read_nested(alloc, primes, from);
     }
     read_compare(alloc, primes, tokens)
+}
+
+/// A condition, and the tokens behind the parenthesis that closes it.
+#[cycle(conditions)]
+pub(crate) fn read_nested(
+    alloc: Global,
+    primes: bool,
+    tokens: &[Token],
+) -> Result<(DraftCond, &[Token]), FormFault>
+    ensures found { IfOk result (λ x. (ds : List DraftCond) × spec.Cond primes (words tokens.now) ds (Word.Sign Sign.CloseParen ∷ words x.1.now) × (x.0 ≡ spec.any_of ds)) }
+    ensures shorter { IfOk result (λ x. length x.1.now < length tokens.now) }
+    ensures refused { result ≡ Err FormFault.Refused
+        → (ds : List DraftCond) (rest : List Word) → spec.Cond primes (words tokens.now) ds (Word.Sign Sign.CloseParen ∷ rest) → ⊥ }
+{
+    let (members, after) = read_cond(alloc, primes, tokens)?;
+    match past_sign(after, Sign::CloseParen) {
+        Some(rest) => Ok((any_of(members), rest)),
+        None => Err(FormFault::Refused),
+    }
 }
 
 /// The members that `AND` joins, and the tokens behind them.

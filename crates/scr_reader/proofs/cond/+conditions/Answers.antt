@@ -1,8 +1,9 @@
 use Rattle.std.proofs.Common.{arith, append_assoc}
-use Rattle.std.proofs.lemmas.Result.{err_from_is_err_and}
+use Rattle.std.proofs.lemmas.Result.{err_from_is_err_and, IfOk-weaker}
 use Rattle.scr_reader.specs.Conds as spec
+use Rattle.scr_reader.proofs.Once.{cond_once}
 use Rattle.scr_reader.proofs.Reading.{handed_on, fewer}
-use Rattle.scr_reader.proofs.CondSteps.{lit_to, conj_to, negated_at, behind_not, nested_at, behind_open, not_closed, first_lit, after_and, first_conj, after_or}
+use Rattle.scr_reader.proofs.CondSteps.{lit_to, conj_to, negated_at, behind_not, nested_at, behind_open, first_lit, after_and, first_conj, after_or}
 use Rattle.scr_reader.proofs.cond.+conditions.Goals as goal
 
 -- ---- a negation
@@ -18,19 +19,16 @@ read_lit-returns-in-Some-clause-found t c = negated_at c.in-Some.ensures c.in_ok
 
 -- ---- parentheses
 
-pub read_lit-returns-in_err-members-clause-refused : goal.read_lit-returns-in_err-members-clause-refused
-read_lit-returns-in_err-members-clause-refused t c never d rest h =
-    let inner = behind_open c.in-Some-past_sign.ensures h in
-    let p = err_from_is_err_and c.from_residual-in_err-members.result c.from_residual-in_err-members.ensures.1 in
-    c.in_err-members.ensures.refused (handed_on p.1 p.2 never) inner.0 _ inner.1
+pub read_lit-returns-in-Some-past_sign-clause-found : goal.read_lit-returns-in-Some-past_sign-clause-found
+read_lit-returns-in-Some-past_sign-clause-found t c = IfOk-weaker _ _ _ (λ x inner. nested_at c.in-Some-past_sign.ensures inner.1 inner.2) c.read_nested.ensures.found
 
-pub read_lit-returns-in-Some-past_sign-2-clause-found : goal.read_lit-returns-in-Some-past_sign-2-clause-found
-read_lit-returns-in-Some-past_sign-2-clause-found t c =
-    nested_at c.in-Some-past_sign.ensures c.in_ok-members.ensures.found c.in-Some-past_sign-2.ensures c.any_of.ensures
+pub read_lit-returns-in-Some-past_sign-clause-refused : goal.read_lit-returns-in-Some-past_sign-clause-refused
+read_lit-returns-in-Some-past_sign-clause-refused t c never d rest h =
+    let inner = behind_open c.in-Some-past_sign.ensures h in c.read_nested.ensures.refused never inner.0 rest inner.1
 
-pub read_lit-returns-in-None-clause-refused : goal.read_lit-returns-in-None-clause-refused
-read_lit-returns-in-None-clause-refused t c never d rest h =
-    not_closed c.in-Some-past_sign.ensures c.in_ok-members.ensures.found c.in-None.ensures h
+pub read_nested-returns-in-None-clause-refused : goal.read_nested-returns-in-None-clause-refused
+read_nested-returns-in-None-clause-refused t c never ds rest h =
+    let e = cond_once c.in_ok-members.ensures.found h in c.in-None.ensures rest e.1
 
 -- ---- AND
 

@@ -5,14 +5,17 @@ use Rattle.scr_reader.specs.Words.{words}
 use Rattle.scr_reader.specs.Conds.{Conj, Cond}
 use Rattle.scr_reader.proofs.cond.+conditions.Given as goal
 
+abbrev pub decreases-read_nested : goal.decreases-read_nested
+decreases-read_nested l = 4 * length l.tokens.now + 3
+
 abbrev pub decreases-read_cond : goal.decreases-read_cond
-decreases-read_cond l = 3 * length l.tokens.now + 2
+decreases-read_cond l = 4 * length l.tokens.now + 2
 
 abbrev pub decreases-read_conj : goal.decreases-read_conj
-decreases-read_conj l = 3 * length l.tokens.now + 1
+decreases-read_conj l = 4 * length l.tokens.now + 1
 
 abbrev pub decreases-read_lit : goal.decreases-read_lit
-decreases-read_lit l = 3 * length l.tokens.now
+decreases-read_lit l = 4 * length l.tokens.now
 
 abbrev pub invariant-read_cond-members : goal.invariant-read_cond-members
 invariant-read_cond-members l = record {
