@@ -74,10 +74,10 @@ item_once false_item (reference q) = elim q [ ]
 item_once false_item false_item = (refl, refl)
 
 -- no item begins with a sign
-no_item : {primes : Bool} {sign : Sign} {from rest : List Word} {a : DraftItem} → Item primes (w.Sign sign ∷ from) a rest → ⊥
+pub no_item : {primes : Bool} {sign : Sign} {from rest : List Word} {a : DraftItem} → Item primes (w.Sign sign ∷ from) a rest → ⊥
 no_item (reference p) = elim p [ ]
 
-more_from : {primes : Bool} {a b rest : List Word} {items : List DraftItem} → a ≡ b → More primes b items rest → More primes a items rest
+pub more_from : {primes : Bool} {a b rest : List Word} {items : List DraftItem} → a ≡ b → More primes b items rest → More primes a items rest
 more_from {primes} {rest = rest} {items = items} e l = subst (λ from. More primes from items rest) (sym e) l
 
 pub more_once : {primes : Bool} {from rest other : List Word} {items more : List DraftItem} → More primes from items rest → More primes from more other
@@ -99,10 +99,10 @@ side_once (minus_side l ls) (minus_side m ms) = let e = item_once l m in let f =
 -- ---- conditions
 
 -- no side begins with a reserved word but TRUE or FALSE, or with a parenthesis
-no_side_not : {primes : Bool} {from rest : List Word} {l : DraftSide} → Side primes (w.Reserved k.Not ∷ from) l rest → ⊥
+pub no_side_not : {primes : Bool} {from rest : List Word} {l : DraftSide} → Side primes (w.Reserved k.Not ∷ from) l rest → ⊥
 no_side_not (side (reference p) ls) = elim p [ ]
 
-no_side_open : {primes : Bool} {from rest : List Word} {l : DraftSide} → Side primes (w.Sign s.OpenParen ∷ from) l rest → ⊥
+pub no_side_open : {primes : Bool} {from rest : List Word} {l : DraftSide} → Side primes (w.Sign s.OpenParen ∷ from) l rest → ⊥
 no_side_open (side l ls) = no_item l
 
 -- the words behind a first one

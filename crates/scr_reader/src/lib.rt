@@ -1,6 +1,7 @@
 //! Reads the text of a specification: from bytes to statements with their lines.
 #![tactic(auto)]
 
+mod cond;
 mod declaration;
 mod draft;
 mod fault;
@@ -8,6 +9,7 @@ mod form;
 mod limit;
 mod names;
 mod place;
+mod side;
 mod step;
 mod table;
 
