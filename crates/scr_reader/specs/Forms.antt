@@ -111,11 +111,11 @@ pub data Form : Place → List Word → Statement → Place → Type 0 where
       → RowRest heading from modes cells → Form place (w.Reserved k.Row ∷ from) (st.Row modes cells) (p.Rows heading)
   values : {heading : Heading} {from : List Word} {sides : List DraftSide} → Sides from sides
       → Form (p.Rows heading) (w.Reserved k.Values ∷ from) (st.Values sides) p.Closed
-  from : {rest : List Word} {source target : List ℕ} {prims : List DraftPrim} → FromRest rest source target prims
-      → Form p.Transitions (w.Reserved k.From ∷ rest) (st.Transition source target (event_of prims)) p.Transitions
+  from_to : {from : List Word} {source target : List ℕ} {prims : List DraftPrim} → FromRest from source target prims
+      → Form p.Transitions (w.Reserved k.From ∷ from) (st.Transition source target (event_of prims)) p.Transitions
   end : {place : Place} → may_end place ≡ true → Form place (w.Reserved k.End ∷ []) st.End p.Tables
   finish : {place : Place} → is_between place ≡ true → Form place (w.Reserved k.Finish ∷ []) st.Finish p.After
 
 -- the words have no form here
 abbrev pub NoForm : Place → List Word → Type 0
-NoForm place words = (statement : Statement) (next : Place) → Form place words statement next → ⊥
+NoForm place from = (statement : Statement) (next : Place) → Form place from statement next → ⊥
