@@ -15,6 +15,8 @@ use Rattle.scr_reader.specs.declared.place.TextKind.{TextKind}
 use Rattle.scr_reader.specs.declared.place.TextKind.TheVariants as k
 use Rattle.scr_reader.specs.declared.place.TextFault.{TextFault}
 use Rattle.scr_reader.specs.declared.place.TextFault.TheVariants as fault
+use Rattle.scr_reader.specs.declared.place.LineFault.{LineFault}
+use Rattle.scr_reader.specs.declared.place.LineFault.TheVariants as why
 use Rattle.scr_reader.specs.Words.{words}
 use Rattle.scr_reader.specs.Forms.{Form, NoForm}
 use Rattle.scr_reader.specs.Limits.{is_line_within, is_statement_within, counted, is_count_within, no_counts}
@@ -40,16 +42,28 @@ abbrev pub PassesLimit : Position → List Word → Type 0
 PassesLimit position from = (statement : Statement) × (next : Place) × Form position.place from statement next
     × ((is_statement_within statement ≡ false) ⊎ (is_count_within (counted position.counts statement) ≡ false))
 
--- The first step that refuses the line: its length, a byte, a piece that is no token, a token too large, what its words
--- open, no form, a statement or a count too large.
+-- the first step that refuses the words: what they open, no form, a statement or a count too large
+abbrev pub WordsRefuse : Position → List Word → TextKind → Type 0
+WordsRefuse position from k.Byte = ⊥
+WordsRefuse position from k.Syntax = (is_line_within from ≡ true) × NoForm position.place from
+WordsRefuse position from k.Limit = (is_line_within from ≡ false) ⊎ ((is_line_within from ≡ true) × PassesLimit position from)
+WordsRefuse position from k.End = ⊥
+
+-- the line has tokens, and these are refused
+abbrev pub TokensRefuse : Position → List ℕ → TextKind → Type 0
+TokensRefuse position line kind = (tokens : List Token) × IsLexed line tokens × (0 < length tokens) × WordsRefuse position (words tokens) kind
+
+-- the first step that refuses the line: its length, a byte, a piece that is no token, a token too large, or its words
 abbrev pub LineRefuses : Position → List ℕ → TextKind → Type 0
 LineRefuses position line k.Byte = Refuses line f.Byte
-LineRefuses position line k.Syntax = Refuses line f.Syntax
-    ⊎ ((tokens : List Token) × IsLexed line tokens × (0 < length tokens) × (is_line_within (words tokens) ≡ true) × NoForm position.place (words tokens))
-LineRefuses position line k.Limit = Refuses line f.Limit
-    ⊎ ((tokens : List Token) × IsLexed line tokens × ((is_line_within (words tokens) ≡ false)
-    ⊎ ((is_line_within (words tokens) ≡ true) × PassesLimit position (words tokens))))
+LineRefuses position line k.Syntax = Refuses line f.Syntax ⊎ TokensRefuse position line k.Syntax
+LineRefuses position line k.Limit = Refuses line f.Limit ⊎ TokensRefuse position line k.Limit
 LineRefuses position line k.End = ⊥
+
+-- a fault of this kind, where the line or its words are refused so; memory may run out anywhere
+abbrev pub Fails : (TextKind → Type 0) → LineFault → Type 0
+Fails refuses why.NoMemory = Unit {0}
+Fails refuses (why.Refused kind) = refuses kind
 
 -- ---- the lines
 
