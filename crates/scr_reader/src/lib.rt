@@ -3,6 +3,7 @@
 
 mod cond;
 mod draft;
+mod event;
 mod fault;
 mod place;
 mod side;
