@@ -1,6 +1,7 @@
 //! Reads the text of a specification: from bytes to statements with their lines.
 #![tactic(auto)]
 
+mod cell;
 mod cond;
 mod draft;
 mod event;
