@@ -1,4 +1,4 @@
-//! Reads the cells and the values of a table, to the end of their line.
+//! Reads the cells of a row and the values of a table, which bars part, to the end of their line.
 
 ghost use Rattle.std.specs.Prelude.{◌≡◌, ◌<◌, List, length, IfOk};
 ghost use Rattle.scr_text.specs.declared.word.Word.{Word};
@@ -24,7 +24,8 @@ fn read_cell(
 ) -> Result<(DraftCell, &[Token]), FormFault>
     ensures found { IfOk result (λ x. Cell heading (words tokens.now) x.0 (words x.1.now)) }
     ensures shorter { IfOk result (λ x. length x.1.now < length tokens.now) }
-    ensures refused { result ≡ Err FormFault.Refused → (cell : DraftCell) (rest : List Word) → Cell heading (words tokens.now) cell rest → ⊥ }
+    ensures refused { result ≡ Err FormFault.Refused
+        → (cell : DraftCell) (rest : List Word) → Cell heading (words tokens.now) cell rest → ⊥ }
 {
     match heading {
         Heading::Condition => {
@@ -46,7 +47,8 @@ pub(crate) fn read_cells(
     tokens: &[Token],
 ) -> Result<Items<DraftCell>, FormFault>
     ensures found { IfOk result (λ cells. Cells heading (words tokens.now) cells) }
-    ensures refused { result ≡ Err FormFault.Refused → (cells : List DraftCell) → Cells heading (words tokens.now) cells → ⊥ }
+    ensures refused { result ≡ Err FormFault.Refused
+        → (cells : List DraftCell) → Cells heading (words tokens.now) cells → ⊥ }
 {
     let mut cells = Items::new(alloc);
     let mut here = tokens;
@@ -63,10 +65,11 @@ pub(crate) fn read_cells(
     }
 }
 
-/// The values of a table.
+/// The values of a table, which may have primed names.
 pub(crate) fn read_sides(alloc: Global, tokens: &[Token]) -> Result<Items<DraftSide>, FormFault>
     ensures found { IfOk result (λ sides. Sides (words tokens.now) sides) }
-    ensures refused { result ≡ Err FormFault.Refused → (sides : List DraftSide) → Sides (words tokens.now) sides → ⊥ }
+    ensures refused { result ≡ Err FormFault.Refused
+        → (sides : List DraftSide) → Sides (words tokens.now) sides → ⊥ }
 {
     let mut sides = Items::new(alloc);
     let mut here = tokens;

@@ -1,4 +1,5 @@
-//! Reads events.
+//! Reads events: `event = prim { OR prim }`, where a `prim` is `NEVER`, or `@T(cond)`, `@F(cond)` or
+//! `@C(n)`, and then `[ WHEN conj ]`.
 
 ghost use Rattle.std.specs.Prelude.{◌≡◌, ◌<◌, ℕ, false, List, ◌∷◌, length, IfOk, MatchOption};
 ghost use Rattle.scr_reader.specs.Words.{words};
@@ -15,11 +16,14 @@ use std::alloc::Global;
 
 /// The condition in parentheses that stands behind `@T` or `@F`.
 fn read_operand(alloc: Global, tokens: &[Token]) -> Result<(DraftCond, &[Token]), FormFault>
-    ensures found { IfOk result (λ x. (from : List Word) × (ds : List DraftCond) × (words tokens.now ≡ Word.Sign Sign.OpenParen ∷ from)
+    ensures found { IfOk result (λ x. (from : List Word) × (ds : List DraftCond)
+        × (words tokens.now ≡ Word.Sign Sign.OpenParen ∷ from)
         × Cond false from ds (Word.Sign Sign.CloseParen ∷ words x.1.now) × (x.0 ≡ any_of ds)) }
     ensures shorter { IfOk result (λ x. length x.1.now < length tokens.now) }
-    ensures refused { result ≡ Err FormFault.Refused → (from : List Word) (ds : List DraftCond) (rest : List Word)
-        → words tokens.now ≡ Word.Sign Sign.OpenParen ∷ from → Cond false from ds (Word.Sign Sign.CloseParen ∷ rest) → ⊥ }
+    ensures refused { result ≡ Err FormFault.Refused
+        → (from : List Word) (ds : List DraftCond) (rest : List Word)
+        → words tokens.now ≡ Word.Sign Sign.OpenParen ∷ from
+        → Cond false from ds (Word.Sign Sign.CloseParen ∷ rest) → ⊥ }
 {
     match past_sign(tokens, Sign::OpenParen) {
         Some(from) => read_nested(alloc, false, from),
@@ -29,8 +33,11 @@ fn read_operand(alloc: Global, tokens: &[Token]) -> Result<(DraftCond, &[Token])
 
 /// The name in parentheses that stands behind `@C`.
 fn take_operand(tokens: &[Token]) -> Option<(&Name, &[Token])>
-    ensures { MatchOption result ((name : List ℕ) (rest : List Word) → words tokens.now ≡ Word.Sign Sign.OpenParen ∷ Word.Name name ∷ Word.Sign Sign.CloseParen ∷ rest → ⊥)
-        (λ x. words tokens.now ≡ Word.Sign Sign.OpenParen ∷ Word.Name x.0.now ∷ Word.Sign Sign.CloseParen ∷ words x.1.now) }
+    ensures { MatchOption result
+        ((name : List ℕ) (rest : List Word) → words tokens.now
+        ≡ Word.Sign Sign.OpenParen ∷ Word.Name name ∷ Word.Sign Sign.CloseParen ∷ rest → ⊥)
+        (λ x. words tokens.now
+        ≡ Word.Sign Sign.OpenParen ∷ Word.Name x.0.now ∷ Word.Sign Sign.CloseParen ∷ words x.1.now) }
 {
     let from = past_sign(tokens, Sign::OpenParen)?;
     let (name, after) = take_name(from)?;
@@ -42,7 +49,8 @@ fn take_operand(tokens: &[Token]) -> Option<(&Name, &[Token])>
 fn read_change(alloc: Global, tokens: &[Token]) -> Result<(DraftChange, &[Token]), FormFault>
     ensures found { IfOk result (λ x. Change (words tokens.now) x.0 (words x.1.now)) }
     ensures shorter { IfOk result (λ x. length x.1.now < length tokens.now) }
-    ensures refused { result ≡ Err FormFault.Refused → (change : DraftChange) (rest : List Word) → Change (words tokens.now) change rest → ⊥ }
+    ensures refused { result ≡ Err FormFault.Refused
+        → (change : DraftChange) (rest : List Word) → Change (words tokens.now) change rest → ⊥ }
 {
     if let Some(from) = past_sign(tokens, Sign::AtT) {
         let (operand, rest) = read_operand(alloc, from)?;
@@ -61,11 +69,12 @@ fn read_change(alloc: Global, tokens: &[Token]) -> Result<(DraftChange, &[Token]
     }
 }
 
-/// A change with the condition behind `WHEN`, or `NEVER`.
+/// `NEVER`, or a change with the condition behind `WHEN` if there is one.
 fn read_prim(alloc: Global, tokens: &[Token]) -> Result<(DraftPrim, &[Token]), FormFault>
     ensures found { IfOk result (λ x. Prim (words tokens.now) x.0 (words x.1.now)) }
     ensures shorter { IfOk result (λ x. length x.1.now < length tokens.now) }
-    ensures refused { result ≡ Err FormFault.Refused → (prim : DraftPrim) (rest : List Word) → Prim (words tokens.now) prim rest → ⊥ }
+    ensures refused { result ≡ Err FormFault.Refused
+        → (prim : DraftPrim) (rest : List Word) → Prim (words tokens.now) prim rest → ⊥ }
 {
     if let Some(rest) = past_keyword(tokens, Keyword::Never) {
         return Ok((
@@ -105,7 +114,8 @@ pub(crate) fn read_event(
 ) -> Result<(Items<DraftPrim>, &[Token]), FormFault>
     ensures found { IfOk result (λ x. Event (words tokens.now) x.0 (words x.1.now)) }
     ensures shorter { IfOk result (λ x. length x.1.now < length tokens.now) }
-    ensures refused { result ≡ Err FormFault.Refused → (prims : List DraftPrim) (rest : List Word) → Event (words tokens.now) prims rest → ⊥ }
+    ensures refused { result ≡ Err FormFault.Refused
+        → (prims : List DraftPrim) (rest : List Word) → Event (words tokens.now) prims rest → ⊥ }
 {
     let mut prims = Items::new(alloc);
     let mut here = tokens;
