@@ -15,7 +15,7 @@ use Rattle.scr_reader.proofs.Once.{no_side_not, no_side_open, behind, side_once,
 
 -- ---- the same part, from or to equal words
 
-side_to : {primes : Bool} {from a b : List Word} {l : DraftSide} → Side primes from l a → a ≡ b → Side primes from l b
+pub side_to : {primes : Bool} {from a b : List Word} {l : DraftSide} → Side primes from l a → a ≡ b → Side primes from l b
 side_to {primes} {from} {l = l} m e = subst (λ rest. Side primes from l rest) e m
 
 lit_from : {primes : Bool} {a b rest : List Word} {d : DraftCond} → a ≡ b → Lit primes b d rest → Lit primes a d rest

@@ -1,4 +1,5 @@
-//! Reads conditions.
+//! Reads conditions: `cond = conj { OR conj }`, `conj = lit { AND lit }` and
+//! `lit = NOT lit | '(' cond ')' | side [ relation side ]`.
 
 ghost use Rattle.std.specs.Prelude.{◌≡◌, ◌<◌, List, ◌∷◌, length, IfOk};
 ghost use Rattle.scr_text.specs.declared.word.Word.{Word};
@@ -45,7 +46,8 @@ fn read_compare(
     requires not_nested { NotAt (Word.Sign Sign.OpenParen) (words tokens.now) }
     ensures found { IfOk result (λ x. spec.Lit primes (words tokens.now) x.0 (words x.1.now)) }
     ensures shorter { IfOk result (λ x. length x.1.now < length tokens.now) }
-    ensures refused { result ≡ Err FormFault.Refused → (d : DraftCond) (rest : List Word) → spec.Lit primes (words tokens.now) d rest → ⊥ }
+    ensures refused { result ≡ Err FormFault.Refused
+        → (d : DraftCond) (rest : List Word) → spec.Lit primes (words tokens.now) d rest → ⊥ }
 {
     let (left, after) = read_side(alloc, primes, tokens)?;
     match take_relation(after) {
@@ -57,7 +59,7 @@ fn read_compare(
     }
 }
 
-/// A condition without `AND` and `OR` but in parentheses, and the tokens behind it.
+/// A literal: a side, a comparison, a negation, or a condition in parentheses.
 #[cycle(conditions)]
 fn read_lit(
     alloc: Global,
@@ -66,7 +68,8 @@ fn read_lit(
 ) -> Result<(DraftCond, &[Token]), FormFault>
     ensures found { IfOk result (λ x. spec.Lit primes (words tokens.now) x.0 (words x.1.now)) }
     ensures shorter { IfOk result (λ x. length x.1.now < length tokens.now) }
-    ensures refused { result ≡ Err FormFault.Refused → (d : DraftCond) (rest : List Word) → spec.Lit primes (words tokens.now) d rest → ⊥ }
+    ensures refused { result ≡ Err FormFault.Refused
+        → (d : DraftCond) (rest : List Word) → spec.Lit primes (words tokens.now) d rest → ⊥ }
 {
     if let Some(from) = past_keyword(tokens, Keyword::Not) {
         let (inner, rest) = read_lit(alloc, primes, from)?;
@@ -85,10 +88,13 @@ pub(crate) fn read_nested(
     primes: bool,
     tokens: &[Token],
 ) -> Result<(DraftCond, &[Token]), FormFault>
-    ensures found { IfOk result (λ x. (ds : List DraftCond) × spec.Cond primes (words tokens.now) ds (Word.Sign Sign.CloseParen ∷ words x.1.now) × (x.0 ≡ spec.any_of ds)) }
+    ensures found { IfOk result (λ x. (ds : List DraftCond)
+        × spec.Cond primes (words tokens.now) ds (Word.Sign Sign.CloseParen ∷ words x.1.now)
+        × (x.0 ≡ spec.any_of ds)) }
     ensures shorter { IfOk result (λ x. length x.1.now < length tokens.now) }
     ensures refused { result ≡ Err FormFault.Refused
-        → (ds : List DraftCond) (rest : List Word) → spec.Cond primes (words tokens.now) ds (Word.Sign Sign.CloseParen ∷ rest) → ⊥ }
+        → (ds : List DraftCond) (rest : List Word)
+        → spec.Cond primes (words tokens.now) ds (Word.Sign Sign.CloseParen ∷ rest) → ⊥ }
 {
     let (members, after) = read_cond(alloc, primes, tokens)?;
     match past_sign(after, Sign::CloseParen) {
@@ -106,7 +112,8 @@ pub(crate) fn read_conj(
 ) -> Result<(Items<DraftCond>, &[Token]), FormFault>
     ensures found { IfOk result (λ x. spec.Conj primes (words tokens.now) x.0 (words x.1.now)) }
     ensures shorter { IfOk result (λ x. length x.1.now < length tokens.now) }
-    ensures refused { result ≡ Err FormFault.Refused → (ds : List DraftCond) (rest : List Word) → spec.Conj primes (words tokens.now) ds rest → ⊥ }
+    ensures refused { result ≡ Err FormFault.Refused
+        → (ds : List DraftCond) (rest : List Word) → spec.Conj primes (words tokens.now) ds rest → ⊥ }
 {
     let mut members = Items::new(alloc);
     let mut here = tokens;
@@ -129,7 +136,8 @@ pub(crate) fn read_cond(
 ) -> Result<(Items<DraftCond>, &[Token]), FormFault>
     ensures found { IfOk result (λ x. spec.Cond primes (words tokens.now) x.0 (words x.1.now)) }
     ensures shorter { IfOk result (λ x. length x.1.now < length tokens.now) }
-    ensures refused { result ≡ Err FormFault.Refused → (ds : List DraftCond) (rest : List Word) → spec.Cond primes (words tokens.now) ds rest → ⊥ }
+    ensures refused { result ≡ Err FormFault.Refused
+        → (ds : List DraftCond) (rest : List Word) → spec.Cond primes (words tokens.now) ds rest → ⊥ }
 {
     let mut members = Items::new(alloc);
     let mut here = tokens;

@@ -1,9 +1,11 @@
 //! Reads the text of a specification: from bytes to statements with their lines.
 #![tactic(auto)]
 
+mod cell;
 mod cond;
 mod declaration;
 mod draft;
+mod event;
 mod fault;
 mod form;
 mod limit;

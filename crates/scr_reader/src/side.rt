@@ -1,4 +1,5 @@
-//! Reads sides: sums of items.
+//! Reads sides: `side = [ '-' ] item { ( '+' | '-' ) item }`, where an item is a number, a number
+//! times a name, a name, `TRUE` or `FALSE`. With `primes` a primed name may stand for a name.
 
 ghost use Rattle.std.specs.Prelude.{◌≡◌, ◌<◌, ◌≤◌, List, ◌∷◌, length, if◌then◌else◌, IfOk, IfSome, MatchOption, MatchBool};
 ghost use Rattle.scr_reader.specs.Words.{words, NotAt, IsNatural};
@@ -19,7 +20,9 @@ fn read_reference(
 ) -> Result<(DraftOperand, &[Token]), FormFault>
     ensures found { IfOk result (λ x. Reference primes (words tokens.now) x.0 (words x.1.now)) }
     ensures shorter { IfOk result (λ x. length x.1.now < length tokens.now) }
-    ensures refused { result ≡ Err FormFault.Refused → (operand : DraftOperand) (rest : List Word) → Reference primes (words tokens.now) operand rest → ⊥ }
+    ensures refused { result ≡ Err FormFault.Refused
+        → (operand : DraftOperand) (rest : List Word)
+        → Reference primes (words tokens.now) operand rest → ⊥ }
 {
     match first_word(tokens) {
         Some((Word::Name(name), rest)) => Ok((DraftOperand::Plain(name.copy(alloc)?), rest)),
@@ -34,7 +37,7 @@ fn read_reference(
     }
 }
 
-/// The item that begins with this number, which stands before these tokens.
+/// The item that begins with the number `factor`, behind which `tokens` begin.
 fn read_multiple(
     alloc: Global,
     primes: bool,
@@ -42,10 +45,13 @@ fn read_multiple(
     tokens: &[Token],
 ) -> Result<(DraftItem, &[Token]), FormFault>
     requires { IsNatural factor }
-    ensures found { IfOk result (λ x. Item primes (Word.Number factor ∷ words tokens.now) x.0 (words x.1.now)) }
+    ensures found { IfOk result
+        (λ x. Item primes (Word.Number factor ∷ words tokens.now) x.0 (words x.1.now)) }
     ensures natural { IfOk result (λ x. IsNatural x.0.factor) }
     ensures no_longer { IfOk result (λ x. length x.1.now ≤ length tokens.now) }
-    ensures refused { result ≡ Err FormFault.Refused → (item : DraftItem) (rest : List Word) → Item primes (Word.Number factor ∷ words tokens.now) item rest → ⊥ }
+    ensures refused { result ≡ Err FormFault.Refused
+        → (item : DraftItem) (rest : List Word)
+        → Item primes (Word.Number factor ∷ words tokens.now) item rest → ⊥ }
 {
     match past_sign(tokens, Sign::Times) {
         Some(after) => {
@@ -62,10 +68,13 @@ fn read_multiple(
     }
 }
 
-/// `TRUE` or `FALSE`.
+/// The truth in front.
 fn take_truth(tokens: &[Token]) -> Option<(bool, &[Token])>
-    ensures { MatchOption result (NotAt (Word.Reserved Keyword.True) (words tokens.now) × NotAt (Word.Reserved Keyword.False) (words tokens.now))
-        (λ x. words tokens.now ≡ Word.Reserved (if x.0 then Keyword.True else Keyword.False) ∷ words x.1.now) }
+    ensures { MatchOption result
+        (NotAt (Word.Reserved Keyword.True) (words tokens.now)
+        × NotAt (Word.Reserved Keyword.False) (words tokens.now))
+        (λ x. words tokens.now
+        ≡ Word.Reserved (if x.0 then Keyword.True else Keyword.False) ∷ words x.1.now) }
 {
     match past_keyword(tokens, Keyword::True) {
         Some(rest) => Some((true, rest)),
@@ -76,7 +85,7 @@ fn take_truth(tokens: &[Token]) -> Option<(bool, &[Token])>
     }
 }
 
-/// An item without its sign.
+/// An item, but for the sign before it.
 fn read_item(
     alloc: Global,
     primes: bool,
@@ -85,7 +94,8 @@ fn read_item(
     ensures found { IfOk result (λ x. Item primes (words tokens.now) x.0 (words x.1.now)) }
     ensures natural { IfOk result (λ x. IsNatural x.0.factor) }
     ensures shorter { IfOk result (λ x. length x.1.now < length tokens.now) }
-    ensures refused { result ≡ Err FormFault.Refused → (item : DraftItem) (rest : List Word) → Item primes (words tokens.now) item rest → ⊥ }
+    ensures refused { result ≡ Err FormFault.Refused
+        → (item : DraftItem) (rest : List Word) → Item primes (words tokens.now) item rest → ⊥ }
 {
     if let Some((factor, rest)) = take_number(tokens) {
         return read_multiple(alloc, primes, factor, rest);
@@ -103,7 +113,7 @@ fn read_item(
     Ok((DraftItem { factor: 1, operand }, rest))
 }
 
-/// An item behind its sign.
+/// The item with the sign before it.
 fn signed(minus: bool, item: DraftItem) -> DraftItem
     requires { IsNatural item.factor }
     ensures { result ≡ (if minus then turned item else item) }
@@ -132,7 +142,8 @@ fn past_minus(tokens: &[Token]) -> (bool, &[Token])
 
 /// Whether the next item has a minus, and the tokens from that item on.
 fn take_joint(tokens: &[Token]) -> Option<(bool, &[Token])>
-    ensures sign { MatchOption result (NotAt (Word.Sign Sign.Plus) (words tokens.now) × NotAt (Word.Sign Sign.Minus) (words tokens.now))
+    ensures sign { MatchOption result
+        (NotAt (Word.Sign Sign.Plus) (words tokens.now) × NotAt (Word.Sign Sign.Minus) (words tokens.now))
         (λ x. words tokens.now ≡ Word.Sign (if x.0 then Sign.Minus else Sign.Plus) ∷ words x.1.now) }
     ensures shorter { IfSome result (λ x. length x.1.now < length tokens.now) }
 {
@@ -153,7 +164,8 @@ pub(crate) fn read_side(
 ) -> Result<(DraftSide, &[Token]), FormFault>
     ensures found { IfOk result (λ x. Side primes (words tokens.now) x.0 (words x.1.now)) }
     ensures shorter { IfOk result (λ x. length x.1.now < length tokens.now) }
-    ensures refused { result ≡ Err FormFault.Refused → (l : DraftSide) (rest : List Word) → Side primes (words tokens.now) l rest → ⊥ }
+    ensures refused { result ≡ Err FormFault.Refused
+        → (l : DraftSide) (rest : List Word) → Side primes (words tokens.now) l rest → ⊥ }
 {
     let mut items = Items::new(alloc);
     let (mut minus, mut here) = past_minus(tokens);
