@@ -11,7 +11,11 @@ use Rattle.scr_reader.specs.Words.{IsNatural, NotAt, NotAtName}
 use Rattle.scr_reader.specs.declared.draft.DraftKind.{DraftKind}
 use Rattle.scr_reader.specs.declared.draft.DraftValue.{DraftValue}
 use Rattle.scr_reader.specs.declared.draft.Statement.TheVariants as st
-use Rattle.scr_reader.specs.Forms.{Bounds, bounds, TypeRest, range, labels, ConstRest, constant, Initial, initial, Typed, plain, VariableRest, variable, ClassRest, class, HeadRest, without_class, over_class}
+use Rattle.scr_spec.specs.declared.table.Heading.{Heading}
+use Rattle.scr_reader.specs.declared.draft.DraftCell.{DraftCell}
+use Rattle.scr_reader.specs.declared.draft.DraftPrim.{DraftPrim}
+use Rattle.scr_reader.specs.Events.{Event, Cells}
+use Rattle.scr_reader.specs.Forms.{Bounds, bounds, TypeRest, range, labels, ConstRest, constant, Initial, initial, Typed, plain, VariableRest, variable, ClassRest, class, HeadRest, without_class, over_class, RowRest, without_modes, with_modes, FromRest, transition}
 use Rattle.scr_reader.specs.Names.{Braced, braced, KindOf, Names, last_name, name_comma, Int, plain_int, minus_int, Value, number_value}
 
 zero-sub : (n : ℤ) → pos 0 -ℤ n ≡ neg_ℤ n
@@ -93,3 +97,18 @@ head_at e f g = rw (e, f, g) without_class
 pub head_over_at : {a b : List Word} {name label over class : List ℕ} → a ≡ w.Name name ∷ b → b ≡ w.Reserved k.Over ∷ w.Name over ∷ [] → label ≡ name → class ≡ over
     → HeadRest a label (Some class)
 head_over_at e f g h = rw (e, f, g, h) over_class
+
+pub row_at : {heading : Heading} {a b c : List Word} {modes : List (List ℕ)} {cells : List DraftCell} → Names a modes b → b ≡ w.Sign s.Colon ∷ c → Cells heading c cells
+    → RowRest heading a modes cells
+row_at {a = a} {modes = modes} n e d = with_modes (subst (λ b. Names a modes b) e n) d
+
+pub row_alone_at : {heading : Heading} {a b : List Word} {modes : List (List ℕ)} {cells : List DraftCell} → a ≡ w.Sign s.Colon ∷ b → modes ≡ [] → Cells heading b cells
+    → RowRest heading a modes cells
+row_alone_at e f d = rw (e, f) (without_modes d)
+
+pub last_event_at : {a b : List Word} {prims : List DraftPrim} → Event a prims b → b ≡ [] → Event a prims []
+last_event_at {a} {prims = prims} d e = subst (λ b. Event a prims b) e d
+
+pub from_at : {a b : List Word} {source start target stop : List ℕ} {prims : List DraftPrim}
+    → a ≡ w.Name source ∷ w.Reserved k.To ∷ w.Name target ∷ w.Sign s.Colon ∷ b → start ≡ source → stop ≡ target → Event b prims [] → FromRest a start stop prims
+from_at e f g d = rw (e, f, g) (transition d)

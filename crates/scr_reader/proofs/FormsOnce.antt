@@ -120,7 +120,7 @@ from_once (transition d) (transition e) = (refl, refl, (event_once d e).0)
 -- ---- a line
 
 -- a place expects the rows of one heading
-heading_once : {heading other : Heading} {place : Place} → expects_row heading place → expects_row other place → heading ≡ other
+pub heading_once : {heading other : Heading} {place : Place} → expects_row heading place → expects_row other place → heading ≡ other
 heading_once (inl e) (inl f) = cc
 heading_once (inl e) (inr f) = cc
 heading_once (inr e) (inl f) = cc
