@@ -170,7 +170,7 @@ refused_same (unfinished h) (unfinished g) = (refl, refl)
 
 text_apart : (text : List ℕ) (draft : List Numbered) (line : ℕ) (kind : TextKind) → TextReads text draft → TextRefuses text (fault.Refused line kind) → ⊥
 text_apart text draft line kind r (inl h) = let e = r.size in absurd (omega (arith, h.0))
-text_apart text draft line kind r (inr h) = apart r.lines r.finished h.1
+text_apart text draft line kind r (inr h) = apart r.lines.lines r.lines.finished h.1
 
 one_fault : (text : List ℕ) (m n : ℕ) (i j : TextKind) → TextRefuses text (fault.Refused m i) → TextRefuses text (fault.Refused n j) → (m ≡ n) × (i ≡ j)
 one_fault text m n i j (inl h) (inl g) = (h.1 ∙ sym g.1, h.2 ∙ sym g.2)
@@ -180,7 +180,7 @@ one_fault text m n i j (inr h) (inr g) = refused_same h.1 g.1
 
 pub one_outcome : OneOutcome
 one_outcome = record {
-  once = λ text a b r q. reads_once r.lines q.lines;
+  once = λ text a b r q. reads_once r.lines.lines q.lines.lines;
   apart = λ text draft line kind r h. text_apart text draft line kind r h;
   one_fault = λ text m n i j h g. one_fault text m n i j h g;
 }

@@ -92,12 +92,21 @@ pub data Refused : Position → ℕ → List (List ℕ) → ℕ → TextKind →
 abbrev pub start : Position
 start = record { place = Start; counts = no_counts }
 
+-- the lines are these statements, to FINISH
+pub record LinesRead (ls : List (List ℕ)) (draft : List Numbered) : Type 0 where
+  pub last : Position
+  pub finished : last.place ≡ After
+  pub lines : Reads start 1 ls draft last
+
 -- the text is these statements
 pub record TextReads (text : List ℕ) (draft : List Numbered) : Type 0 where
   pub size : length text ≤ 1048576
-  pub last : Position
-  pub finished : last.place ≡ After
-  pub lines : Reads start 1 (lines text) draft last
+  pub lines : LinesRead (lines text) draft
+
+-- the lines are refused with this fault; memory may run out at any lines
+abbrev pub LinesFail : List (List ℕ) → TextFault → Type 0
+LinesFail ls fault.NoMemory = Unit {0}
+LinesFail ls (fault.Refused line kind) = Refused start 1 ls line kind
 
 -- the text is refused with this fault; memory may run out at any text
 abbrev pub TextRefuses : List ℕ → TextFault → Type 0

@@ -193,6 +193,18 @@ pub(crate) fn is_statement_within(statement: &Statement) -> bool
     }
 }
 
+/// The counts before the first line.
+pub(crate) fn no_counts() -> Counts
+    ensures { result ≡ spec.no_counts }
+{
+    Counts {
+        types: 0,
+        constants: 0,
+        variables: 0,
+        rows: 0,
+    }
+}
+
 /// The counts with this statement.
 pub(crate) fn counted(counts: Counts, statement: &Statement) -> Counts
     requires { spec.is_count_within counts ≡ true }
