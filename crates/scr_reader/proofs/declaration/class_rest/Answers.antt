@@ -1,4 +1,4 @@
-use Rattle.scr_reader.proofs.FormsAt.{class_at}
+use Rattle.scr_reader.proofs.PartSteps.{class_at}
 use Rattle.scr_reader.proofs.declaration.class_rest.Goals as goal
 
 pub returns-clause-found : goal.returns-clause-found

@@ -1,6 +1,6 @@
 use Rattle.std.proofs.Common.{arith}
 use Rattle.std.proofs.lemmas.Int.{ints}
-use Rattle.scr_reader.proofs.FormsAt.{const_at}
+use Rattle.scr_reader.proofs.PartSteps.{const_at}
 use Rattle.scr_reader.proofs.declaration.const_rest.Goals as goal
 
 pub returns : goal.returns

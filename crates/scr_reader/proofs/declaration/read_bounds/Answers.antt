@@ -1,6 +1,6 @@
 use Rattle.std.proofs.Common.{arith}
 use Rattle.std.proofs.lemmas.Int.{ints}
-use Rattle.scr_reader.proofs.FormsAt.{bounds_at}
+use Rattle.scr_reader.proofs.PartSteps.{bounds_at}
 use Rattle.scr_reader.proofs.declaration.read_bounds.Goals as goal
 
 pub returns : goal.returns

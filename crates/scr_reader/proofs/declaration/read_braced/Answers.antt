@@ -1,4 +1,4 @@
-use Rattle.scr_reader.proofs.FormsAt.{braced_at}
+use Rattle.scr_reader.proofs.PartSteps.{braced_at}
 use Rattle.scr_reader.proofs.declaration.read_braced.Goals as goal
 
 pub returns-in-Some-past_sign-clause-found : goal.returns-in-Some-past_sign-clause-found

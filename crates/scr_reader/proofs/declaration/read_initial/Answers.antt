@@ -1,5 +1,5 @@
 use Rattle.std.proofs.Common.{refl}
-use Rattle.scr_reader.proofs.FormsAt.{initial_at}
+use Rattle.scr_reader.proofs.PartSteps.{initial_at}
 use Rattle.scr_reader.proofs.declaration.read_initial.Goals as goal
 
 pub returns-then-is_end-clause-found : goal.returns-then-is_end-clause-found

@@ -1,5 +1,5 @@
 use Rattle.std.proofs.Common.{refl}
-use Rattle.scr_reader.proofs.FormsAt.{plain_at}
+use Rattle.scr_reader.proofs.PartSteps.{plain_at}
 use Rattle.scr_reader.specs.Forms.{with_init}
 use Rattle.scr_reader.proofs.declaration.read_typed.Goals as goal
 

@@ -1,6 +1,6 @@
 use Rattle.std.proofs.Common.{arith}
 use Rattle.std.proofs.lemmas.Int.{ints}
-use Rattle.scr_reader.proofs.FormsAt.{range_at, labels_at}
+use Rattle.scr_reader.proofs.PartSteps.{range_at, labels_at}
 use Rattle.scr_reader.proofs.declaration.type_rest.Goals as goal
 
 pub returns-in-Some-read_bounds-clause-found : goal.returns-in-Some-read_bounds-clause-found

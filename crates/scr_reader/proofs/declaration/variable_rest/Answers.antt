@@ -1,4 +1,4 @@
-use Rattle.scr_reader.proofs.FormsAt.{variable_at}
+use Rattle.scr_reader.proofs.PartSteps.{variable_at}
 use Rattle.scr_reader.proofs.declaration.variable_rest.Goals as goal
 
 pub returns-clause-found : goal.returns-clause-found

@@ -1,4 +1,4 @@
-use Rattle.scr_reader.proofs.FormAt.{class_at}
+use Rattle.scr_reader.proofs.FormSteps.{class_at}
 use Rattle.scr_reader.proofs.form.read_class.Goals as goal
 
 pub returns-in_ok-name-in-Declarations-clause-found : goal.returns-in_ok-name-in-Declarations-clause-found

@@ -1,6 +1,6 @@
 use Rattle.std.proofs.Common.{arith}
 use Rattle.std.proofs.lemmas.Int.{ints}
-use Rattle.scr_reader.proofs.FormAt.{const_at}
+use Rattle.scr_reader.proofs.FormSteps.{const_at}
 use Rattle.scr_reader.proofs.form.read_const.Goals as goal
 
 pub returns-in_ok-copy-in-Declarations-Some-clause-found : goal.returns-in_ok-copy-in-Declarations-Some-clause-found

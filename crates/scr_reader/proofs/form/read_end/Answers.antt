@@ -1,5 +1,5 @@
 use Rattle.std.proofs.Common.{refl, sym}
-use Rattle.scr_reader.proofs.FormAt.{end_at}
+use Rattle.scr_reader.proofs.FormSteps.{end_at}
 use Rattle.scr_reader.proofs.form.read_end.Goals as goal
 
 pub returns-then-is_end-clause-found : goal.returns-then-is_end-clause-found

@@ -1,5 +1,5 @@
 use Rattle.std.proofs.Common.{refl, sym}
-use Rattle.scr_reader.proofs.FormAt.{finish_at}
+use Rattle.scr_reader.proofs.FormSteps.{finish_at}
 use Rattle.scr_reader.proofs.form.read_finish.Goals as goal
 
 pub returns-then-is_end-clause-found : goal.returns-then-is_end-clause-found

@@ -1,6 +1,6 @@
 use Rattle.std.proofs.Common.{subst}
 use Rattle.scr_reader.specs.Forms.{Form}
-use Rattle.scr_reader.proofs.FormAt.{no_other}
+use Rattle.scr_reader.proofs.FormSteps.{no_other}
 use Rattle.scr_reader.proofs.form.read_form.Goals as goal
 
 pub returns-in_default-keyword-clause-refused : goal.returns-in_default-keyword-clause-refused

@@ -1,4 +1,4 @@
-use Rattle.scr_reader.proofs.FormAt.{from_to_at}
+use Rattle.scr_reader.proofs.FormSteps.{from_to_at}
 use Rattle.scr_reader.proofs.form.read_from.Goals as goal
 
 pub returns-in_ok-source-in-Transitions-clause-found : goal.returns-in_ok-source-in-Transitions-clause-found

@@ -1,5 +1,5 @@
 use Rattle.std.proofs.Common.{sym}
-use Rattle.scr_reader.proofs.FormAt.{modes_at}
+use Rattle.scr_reader.proofs.FormSteps.{modes_at}
 use Rattle.scr_reader.proofs.form.read_modes_head.Goals as goal
 
 pub returns-in_ok-copy-in-Some-clause-found : goal.returns-in_ok-copy-in-Some-clause-found

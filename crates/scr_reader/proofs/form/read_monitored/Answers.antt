@@ -1,4 +1,4 @@
-use Rattle.scr_reader.proofs.FormAt.{monitored_at, no_monitored}
+use Rattle.scr_reader.proofs.FormSteps.{monitored_at, no_monitored}
 use Rattle.scr_reader.proofs.form.read_monitored.Goals as goal
 
 pub returns-in-Some-clause-found : goal.returns-in-Some-clause-found

@@ -1,5 +1,5 @@
 use Rattle.scr_reader.specs.Forms.{row}
-use Rattle.scr_reader.proofs.FormAt.{no_row}
+use Rattle.scr_reader.proofs.FormSteps.{no_row}
 use Rattle.scr_reader.proofs.form.read_row.Goals as goal
 
 pub returns-in_default-clause-refused : goal.returns-in_default-clause-refused

@@ -1,4 +1,4 @@
-use Rattle.scr_reader.proofs.FormAt.{specification_at}
+use Rattle.scr_reader.proofs.FormSteps.{specification_at}
 use Rattle.scr_reader.proofs.form.read_specification.Goals as goal
 
 pub returns-in_ok-copy-in-Start-Some-clause-found : goal.returns-in_ok-copy-in-Start-Some-clause-found

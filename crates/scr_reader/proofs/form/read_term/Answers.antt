@@ -1,4 +1,4 @@
-use Rattle.scr_reader.proofs.FormAt.{term_at}
+use Rattle.scr_reader.proofs.FormSteps.{term_at}
 use Rattle.scr_reader.proofs.form.read_term.Goals as goal
 
 pub returns-in_ok-name-in-Declarations-clause-found : goal.returns-in_ok-name-in-Declarations-clause-found

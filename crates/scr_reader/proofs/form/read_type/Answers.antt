@@ -1,4 +1,4 @@
-use Rattle.scr_reader.proofs.FormAt.{type_at}
+use Rattle.scr_reader.proofs.FormSteps.{type_at}
 use Rattle.scr_reader.proofs.form.read_type.Goals as goal
 
 pub returns-in_ok-type_rest-in-Declarations-clause-found : goal.returns-in_ok-type_rest-in-Declarations-clause-found

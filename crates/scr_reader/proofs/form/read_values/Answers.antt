@@ -1,4 +1,4 @@
-use Rattle.scr_reader.proofs.FormAt.{values_at}
+use Rattle.scr_reader.proofs.FormSteps.{values_at}
 use Rattle.scr_reader.proofs.form.read_values.Goals as goal
 
 pub returns-in_ok-read_sides-in-Rows-clause-found : goal.returns-in_ok-read_sides-in-Rows-clause-found

@@ -1,5 +1,5 @@
 use Rattle.std.proofs.Common.{refl}
-use Rattle.scr_reader.proofs.TextAt.{blank_at, says_at}
+use Rattle.scr_reader.proofs.TextSteps.{blank_at, says_at}
 use Rattle.scr_reader.proofs.line.read_line.Goals as goal
 
 pub returns-then-is_empty : goal.returns-then-is_empty

@@ -1,6 +1,6 @@
 use Rattle.std.proofs.Common.{arith}
 use Rattle.std.proofs.lemmas.Int.{ints}
-use Rattle.scr_reader.proofs.FormsAt.{int_plain, int_minus}
+use Rattle.scr_reader.proofs.PartSteps.{int_plain, int_minus}
 use Rattle.scr_reader.proofs.names.read_int.Goals as goal
 
 pub returns-in_ok-n-in-Some : goal.returns-in_ok-n-in-Some

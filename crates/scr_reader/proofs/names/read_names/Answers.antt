@@ -1,5 +1,5 @@
 use Rattle.std.proofs.Common.{append_assoc}
-use Rattle.scr_reader.proofs.FormsAt.{no_names, names_behind, names_with, names_end}
+use Rattle.scr_reader.proofs.PartSteps.{no_names, names_behind, names_with, names_end}
 use Rattle.scr_reader.proofs.names.read_names.Goals as goal
 
 pub returns-in_default-clause-refused : goal.returns-in_default-clause-refused

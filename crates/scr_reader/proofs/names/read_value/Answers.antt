@@ -1,7 +1,7 @@
 use Rattle.std.proofs.Common.{arith}
 use Rattle.std.proofs.lemmas.Int.{ints}
 use Rattle.scr_reader.specs.Names.{named_value, true_value, false_value}
-use Rattle.scr_reader.proofs.FormsAt.{value_number}
+use Rattle.scr_reader.proofs.PartSteps.{value_number}
 use Rattle.scr_reader.proofs.names.read_value.Goals as goal
 
 pub returns-in-Some-clause-found : goal.returns-in-Some-clause-found

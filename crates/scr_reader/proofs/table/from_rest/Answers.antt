@@ -1,4 +1,4 @@
-use Rattle.scr_reader.proofs.FormsAt.{from_at}
+use Rattle.scr_reader.proofs.PartSteps.{from_at}
 use Rattle.scr_reader.proofs.table.from_rest.Goals as goal
 
 pub returns-clause-found : goal.returns-clause-found

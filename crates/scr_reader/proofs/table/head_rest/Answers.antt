@@ -1,5 +1,5 @@
 use Rattle.std.proofs.Common.{refl}
-use Rattle.scr_reader.proofs.FormsAt.{head_at, head_over_at}
+use Rattle.scr_reader.proofs.PartSteps.{head_at, head_over_at}
 use Rattle.scr_reader.proofs.table.head_rest.Goals as goal
 
 pub returns-then-is_end-clause-found : goal.returns-then-is_end-clause-found

@@ -1,4 +1,4 @@
-use Rattle.scr_reader.proofs.FormsAt.{row_at, row_alone_at}
+use Rattle.scr_reader.proofs.PartSteps.{row_at, row_alone_at}
 use Rattle.scr_reader.proofs.table.row_rest.Goals as goal
 
 pub returns-in-Some-clause-found : goal.returns-in-Some-clause-found

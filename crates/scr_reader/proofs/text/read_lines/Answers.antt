@@ -1,8 +1,8 @@
-use Rattle.std.proofs.Common.{◌≡◌, List, [], ◌++◌, append_assoc, arith}
+use Rattle.std.proofs.Common.{◌≡◌, [], append_assoc, arith}
 use Rattle.std.proofs.lemmas.List.{append-nil}
 use Rattle.scr_text.specs.Lines.{lines}
 use Rattle.scr_reader.specs.Text.{LineReads, no_line, line_more, later, unfinished}
-use Rattle.scr_reader.proofs.TextAt.{within_after, no_bytes, reads_at, refused_at, fails_at}
+use Rattle.scr_reader.proofs.TextSteps.{within_after, no_bytes, reads_at, refused_at, fails_at}
 use Rattle.scr_reader.proofs.text.read_lines.Goals as goal
 
 pub returns-in-Err : goal.returns-in-Err

@@ -1,5 +1,5 @@
 -- How a line is read or refused, and the lines from there.
-use Rattle.std.proofs.Common.{◌≡◌, ℕ, ◌+◌, List, [], ◌∷◌, length, ◌==◌, true, eqb-true, refl, sym, subst, arith}
+use Rattle.std.proofs.Common.{◌≡◌, ℕ, List, [], ◌∷◌, length, ◌==◌, true, eqb-true, refl, sym, subst, arith}
 use Rattle.std.specs.Prelude.{Option, None, Some}
 use Rattle.scr_text.specs.declared.word.Token.{Token}
 use Rattle.scr_text.specs.Lines.{lines}
