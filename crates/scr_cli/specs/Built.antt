@@ -1,0 +1,183 @@
+-- The specifications that are judged so far: Booleans, one of them with a condition table over the monitored ones.
+use Rattle.std.specs.Prelude.{◌≡◌, ◌≤◌, ℕ, ◌==◌, nat_le, ℤ, pos, Bool, true, false, not, ◌&&◌, if◌then◌else◌, List, [], ◌∷◌, length, map, count_by, position, Option, Some, None, option_map, option_and_then}
+use Rattle.std.specs.List.{list_any}
+use Rattle.std.specs.Ordering.{int_eq}
+use Rattle.std.specs.Str.{bytes_eq}
+use Rattle.scr_spec.specs.Data.{Data}
+use Rattle.scr_spec.specs.Meaning.{truth_code}
+use Rattle.scr_spec.specs.declared.cond.Expr.{Expr}
+use Rattle.scr_spec.specs.declared.cond.Operand.TheVariants as operand
+use Rattle.scr_spec.specs.declared.cond.Cond.{Cond}
+use Rattle.scr_spec.specs.declared.cond.Cond.TheVariants as cond
+use Rattle.scr_spec.specs.declared.spec.Role.{Role}
+use Rattle.scr_spec.specs.declared.spec.Role.TheVariants as role
+use Rattle.scr_spec.specs.declared.spec.Kind.TheVariants as kind
+use Rattle.scr_spec.specs.declared.spec.Variable.{Variable}
+use Rattle.scr_spec.specs.declared.table.Cell.{Cell}
+use Rattle.scr_spec.specs.declared.table.Cell.TheVariants as cell
+use Rattle.scr_spec.specs.declared.table.Heading.TheVariants as heading
+use Rattle.scr_spec.specs.declared.table.Table.{Table}
+use Rattle.scr_reader.specs.declared.draft.DraftItem.{DraftItem}
+use Rattle.scr_reader.specs.declared.draft.DraftOperand.{DraftOperand}
+use Rattle.scr_reader.specs.declared.draft.DraftOperand.TheVariants as o
+use Rattle.scr_reader.specs.declared.draft.DraftSide.{DraftSide}
+use Rattle.scr_reader.specs.declared.draft.DraftCond.{DraftCond, fold-DraftCond}
+use Rattle.scr_reader.specs.declared.draft.DraftCond.TheOpen.{DraftCond-F, Alone, Compare, Not, And, Or}
+use Rattle.scr_reader.specs.declared.draft.DraftCell.{DraftCell}
+use Rattle.scr_reader.specs.declared.draft.DraftCell.TheVariants as draft
+use Rattle.scr_reader.specs.declared.draft.DraftKind.TheVariants as draft_kind
+use Rattle.scr_reader.specs.declared.draft.DraftValue.TheVariants as draft_value
+use Rattle.scr_reader.specs.declared.draft.Statement.{Statement}
+use Rattle.scr_reader.specs.declared.draft.Statement.TheVariants as st
+use Rattle.scr_reader.specs.declared.draft.Numbered.{Numbered}
+use Rattle.scr_reader.specs.Text.{TextReads}
+
+-- ---- names
+
+abbrev pub is_named : List ℕ → Variable → Bool
+is_named name x = bytes_eq name x.name
+
+abbrev pub is_monitored_role : Role → Bool
+is_monitored_role role.Monitored = true
+is_monitored_role other = false
+
+abbrev pub is_monitored : Variable → Bool
+is_monitored x = is_monitored_role x.role
+
+-- a name that no earlier variable has
+abbrev pub are_distinct : List Variable → Bool
+are_distinct [] = true
+are_distinct (x ∷ xs) = not (list_any (is_named x.name) xs) && are_distinct xs
+
+-- ---- declarations
+
+abbrev pub boolean : List ℕ → Role → Option ℤ → Variable
+boolean name r init = record { name = name; role = r; kind = kind.Boolean; init = init; bound = None }
+
+-- a monitored Boolean with its initial value, or a term or controlled Boolean without one
+abbrev pub declared : Statement → Option Variable
+declared (st.Variable role.Monitored name draft_kind.Boolean (Some (draft_value.Truth b))) = Some (boolean name role.Monitored (Some (truth_code b)))
+declared (st.Variable role.Term name draft_kind.Boolean None) = Some (boolean name role.Term None)
+declared (st.Variable role.Controlled name draft_kind.Boolean None) = Some (boolean name role.Controlled None)
+declared other = None
+
+-- the variables of the leading declarations
+abbrev pub variables_of : List Statement → List Variable
+variables_of [] = []
+variables_of (s ∷ ss) = with_variable (declared s) (variables_of ss)
+  where
+    with_variable : Option Variable → List Variable → List Variable
+    with_variable (Some x) xs = x ∷ xs
+    with_variable None xs = []
+
+-- the statements behind them
+abbrev pub behind : List Statement → List Statement
+behind [] = []
+behind (s ∷ ss) = from_here (declared s) (s ∷ ss) (behind ss)
+  where
+    from_here : Option Variable → List Statement → List Statement → List Statement
+    from_here (Some x) here later = later
+    from_here None here later = here
+
+-- ---- cells and values
+
+-- a name, TRUE or FALSE alone
+abbrev pub single : DraftSide → Option DraftOperand
+single side = of_items side.items
+  where
+    of_items : List DraftItem → Option DraftOperand
+    of_items (item ∷ []) = if int_eq item.factor (pos 1) then Some item.operand else None
+    of_items other = None
+
+-- a monitored variable's name, TRUE or FALSE
+abbrev pub atom_of : List Variable → Option DraftOperand → Option Cond
+atom_of variables (Some (o.Plain name)) = option_map cond.Holds (monitored_place variables name)
+  where
+    monitored_place : List Variable → List ℕ → Option ℕ
+    monitored_place variables name = position (λ x. is_named name x && is_monitored x) variables
+atom_of variables (Some (o.Truth b)) = Some (cond.Truth b)
+atom_of variables other = None
+
+-- all of them, where each is there
+abbrev pub all_there : {X : Type 0} → List (Option X) → Option (List X)
+all_there [] = Some []
+all_there (x ∷ xs) = option_and_then (λ y. option_map (λ ys. y ∷ ys) (all_there xs)) x
+
+abbrev pub cond_step : List Variable → DraftCond-F (Option Cond) → Option Cond
+cond_step variables (Alone side) = atom_of variables (single side)
+cond_step variables (Compare l relation m) = None
+cond_step variables (Not c) = option_map cond.Not c
+cond_step variables (And cs) = option_map cond.And (all_there cs)
+cond_step variables (Or cs) = option_map cond.Or (all_there cs)
+
+-- the condition that a cell spells, where it names monitored variables alone and compares nothing
+abbrev pub cond_of : List Variable → DraftCond → Option Cond
+cond_of variables d = fold-DraftCond (Option Cond) (cond_step variables) d
+
+abbrev pub cell_of : List Variable → DraftCell → Option Cell
+cell_of variables (draft.Cond d) = option_map cell.Cond (cond_of variables d)
+cell_of variables (draft.Event e) = None
+
+-- TRUE or FALSE
+abbrev pub value_of : DraftSide → Option Expr
+value_of side = of_operand (single side)
+  where
+    of_operand : Option DraftOperand → Option Expr
+    of_operand (Some (o.Truth b)) = Some (record { items = record { factor = pos 1; operand = operand.Truth b } ∷ [] })
+    of_operand other = None
+
+-- ---- the whole
+
+-- the condition table of the variable with this number
+abbrev pub table_of : ℕ → List Cell → List Expr → Table
+table_of v cells values = record { variable = v; heading = heading.Condition; class = None;
+    rows = record { modes = []; cells = cells; targets = [] } ∷ []; values = values }
+
+abbrev pub data_with : List ℕ → List Variable → Table → Data
+data_with name variables table = record { name = name; types = []; constants = []; variables = variables; tables = table ∷ [] }
+
+-- one name each, one variable that is not monitored, and at most twelve that are
+abbrev pub are_built : List Variable → Bool
+are_built variables = are_distinct variables && count_by (λ x. not (is_monitored x)) variables == 1 && nat_le (count_by is_monitored variables) 12
+
+-- the number of the variable that has the table
+abbrev pub dependent_place : List Variable → List ℕ → Option ℕ
+dependent_place variables name = position (λ x. is_named name x && not (is_monitored x)) variables
+
+abbrev pub cells_of : List Variable → List DraftCell → Option (List Cell)
+cells_of variables cells = all_there (map (cell_of variables) cells)
+
+abbrev pub values_of : List DraftSide → Option (List Expr)
+values_of sides = all_there (map value_of sides)
+
+-- the table has one row, with as many cells as values
+abbrev pub with_table : List ℕ → List Variable → List ℕ → List DraftCell → List DraftSide → Option Data
+with_table name variables t cells sides =
+    if are_built variables && length cells == length sides
+    then option_and_then (λ v. option_and_then (λ cs. option_map (λ es. data_with name variables (table_of v cs es)) (values_of sides))
+        (cells_of variables cells)) (dependent_place variables t)
+    else None
+
+abbrev pub with_tables : List ℕ → List Variable → List Statement → Option Data
+with_tables name variables (st.Head heading.Condition t None ∷ st.Row [] cells ∷ st.Values sides ∷ st.End ∷ st.Finish ∷ []) =
+    with_table name variables t cells sides
+with_tables name variables other = None
+
+-- what the statements spell, where it is judged so far
+abbrev pub spec_of : List Statement → Option Data
+spec_of (st.Specification name ∷ rest) = with_tables name (variables_of rest) (behind rest)
+spec_of other = None
+
+-- the statements without their lines
+abbrev pub statements : List Numbered → List Statement
+statements draft = map (λ n. n.statement) draft
+
+-- the text spells this specification
+pub record Spells (text : List ℕ) (spec : Data) : Type 0 where
+  pub draft : List Numbered
+  pub reads : TextReads text draft
+  pub built : spec_of (statements draft) ≡ Some spec
+
+-- the text spells none
+abbrev pub Unbuilt : List ℕ → Type 0
+Unbuilt text = (spec : Data) → Spells text spec → ⊥

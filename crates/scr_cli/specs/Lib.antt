@@ -1,0 +1,6 @@
+pub mod Number
+pub mod Built
+pub mod Verdict
+pub mod Report
+pub mod Ends
+pub mod Check
