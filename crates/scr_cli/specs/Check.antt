@@ -15,7 +15,7 @@ unbuilt_text = codes "line 0: unbuilt\n"
 
 -- of a text: the report on its table, or the one line where it is not built
 pub data ChecksText : List ℕ → List ℕ → Status → Type 0 where
-  judged : {text : List ℕ} {spec : Data} {table : Table} {verdict : Verdict} → Spells text spec → spec.tables ≡ table ∷ [] → IsVerdict spec table verdict
+  judged : {text : List ℕ} (spec : Data) (table : Table) (verdict : Verdict) → Spells text spec → spec.tables ≡ table ∷ [] → IsVerdict spec table verdict
       → ChecksText text (report_text spec table verdict) (verdict_status verdict)
   unbuilt : {text : List ℕ} → Unbuilt text → ChecksText text unbuilt_text SpecRefused
 
