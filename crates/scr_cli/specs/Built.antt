@@ -1,5 +1,6 @@
 -- The specifications that are judged so far: Booleans, one of them with a condition table over the monitored ones.
 use Rattle.std.specs.Prelude.{◌≡◌, ℕ, ◌==◌, nat_le, ℤ, pos, Bool, true, false, not, ◌&&◌, if◌then◌else◌, List, [], ◌∷◌, length, map, count_by, position, Option, Some, None, option_map, option_and_then}
+use Rattle.std.specs.Option.{option_map_or}
 use Rattle.std.specs.List.{list_any}
 use Rattle.std.specs.Ordering.{int_eq}
 use Rattle.std.specs.Str.{bytes_eq}
@@ -25,7 +26,9 @@ use Rattle.scr_reader.specs.declared.draft.DraftCond.{DraftCond, fold-DraftCond}
 use Rattle.scr_reader.specs.declared.draft.DraftCond.TheOpen.{DraftCond-F, Alone, Compare, Not, And, Or}
 use Rattle.scr_reader.specs.declared.draft.DraftCell.{DraftCell}
 use Rattle.scr_reader.specs.declared.draft.DraftCell.TheVariants as draft
+use Rattle.scr_reader.specs.declared.draft.DraftKind.{DraftKind}
 use Rattle.scr_reader.specs.declared.draft.DraftKind.TheVariants as draft_kind
+use Rattle.scr_reader.specs.declared.draft.DraftValue.{DraftValue}
 use Rattle.scr_reader.specs.declared.draft.DraftValue.TheVariants as draft_value
 use Rattle.scr_reader.specs.declared.draft.Statement.{Statement}
 use Rattle.scr_reader.specs.declared.draft.Statement.TheVariants as st
@@ -54,49 +57,60 @@ are_distinct (x ∷ xs) = not (list_any (is_named x.name) xs) && are_distinct xs
 abbrev pub boolean : List ℕ → Role → Option ℤ → Variable
 boolean name r init = record { name = name; role = r; kind = kind.Boolean; init = init; bound = None }
 
--- a monitored Boolean with its initial value, or a term or controlled Boolean without one
+-- a monitored variable has an initial value
+abbrev pub with_init : List ℕ → Option DraftValue → Option Variable
+with_init name None = None
+with_init name (Some (draft_value.Truth b)) = Some (boolean name role.Monitored (Some (truth_code b)))
+with_init name (Some (draft_value.Number n)) = None
+with_init name (Some (draft_value.Named n)) = None
+
+-- a variable with a condition table has none
+abbrev pub without_init : List ℕ → Role → Option DraftValue → Option Variable
+without_init name r None = Some (boolean name r None)
+without_init name r (Some init) = None
+
+abbrev pub declared_boolean : Role → List ℕ → Option DraftValue → Option Variable
+declared_boolean role.Monitored name init = with_init name init
+declared_boolean role.Mode name init = None
+declared_boolean role.Term name init = without_init name role.Term init
+declared_boolean role.Controlled name init = without_init name role.Controlled init
+
+abbrev pub declared_kind : Role → List ℕ → DraftKind → Option DraftValue → Option Variable
+declared_kind r name draft_kind.Boolean init = declared_boolean r name init
+declared_kind r name (draft_kind.Named n) init = None
+
+-- the Boolean that a line declares
 abbrev pub declared : Statement → Option Variable
-declared (st.Variable role.Monitored name draft_kind.Boolean (Some (draft_value.Truth b))) = Some (boolean name role.Monitored (Some (truth_code b)))
-declared (st.Variable role.Term name draft_kind.Boolean None) = Some (boolean name role.Term None)
-declared (st.Variable role.Controlled name draft_kind.Boolean None) = Some (boolean name role.Controlled None)
+declared (st.Variable r name kind init) = declared_kind r name kind init
 declared other = None
 
 -- the variables of the leading declarations
 abbrev pub variables_of : List Statement → List Variable
 variables_of [] = []
-variables_of (s ∷ ss) = with_variable (declared s) (variables_of ss)
-  where
-    with_variable : Option Variable → List Variable → List Variable
-    with_variable (Some x) xs = x ∷ xs
-    with_variable None xs = []
+variables_of (s ∷ ss) = option_map_or (λ x. x ∷ variables_of ss) (declared s) []
 
 -- the statements behind them
 abbrev pub behind : List Statement → List Statement
 behind [] = []
-behind (s ∷ ss) = from_here (declared s) (s ∷ ss) (behind ss)
-  where
-    from_here : Option Variable → List Statement → List Statement → List Statement
-    from_here (Some x) here later = later
-    from_here None here later = here
+behind (s ∷ ss) = option_map_or (λ x. behind ss) (declared s) (s ∷ ss)
 
 -- ---- cells and values
 
--- a name, TRUE or FALSE alone
+-- one item of factor 1
+abbrev pub single_item : List DraftItem → Option DraftOperand
+single_item [] = None
+single_item (item ∷ []) = if int_eq item.factor (pos 1) then Some item.operand else None
+single_item (item ∷ next ∷ items) = None
+
 abbrev pub single : DraftSide → Option DraftOperand
-single side = of_items side.items
-  where
-    of_items : List DraftItem → Option DraftOperand
-    of_items (item ∷ []) = if int_eq item.factor (pos 1) then Some item.operand else None
-    of_items other = None
+single side = single_item side.items
 
 -- a monitored variable's name, TRUE or FALSE
-abbrev pub atom_of : List Variable → Option DraftOperand → Option Cond
-atom_of variables (Some (o.Plain name)) = option_map cond.Holds (monitored_place variables name)
-  where
-    monitored_place : List Variable → List ℕ → Option ℕ
-    monitored_place variables name = position (λ x. is_named name x && is_monitored x) variables
-atom_of variables (Some (o.Truth b)) = Some (cond.Truth b)
-atom_of variables other = None
+abbrev pub atom_of : List Variable → DraftOperand → Option Cond
+atom_of variables (o.Plain name) = option_map cond.Holds (position (λ x. is_named name x && is_monitored x) variables)
+atom_of variables (o.Truth b) = Some (cond.Truth b)
+atom_of variables o.One = None
+atom_of variables (o.Primed name) = None
 
 -- all of them, where each is there
 abbrev pub all_there : {X : Type 0} → List (Option X) → Option (List X)
@@ -104,7 +118,7 @@ all_there [] = Some []
 all_there (x ∷ xs) = option_and_then (λ y. option_map (λ ys. y ∷ ys) (all_there xs)) x
 
 abbrev pub cond_step : List Variable → DraftCond-F (Option Cond) → Option Cond
-cond_step variables (Alone side) = atom_of variables (single side)
+cond_step variables (Alone side) = option_and_then (atom_of variables) (single side)
 cond_step variables (Compare l relation m) = None
 cond_step variables (Not c) = option_map cond.Not c
 cond_step variables (And cs) = option_map cond.And (all_there cs)
@@ -119,12 +133,14 @@ cell_of variables (draft.Cond d) = option_map cell.Cond (cond_of variables d)
 cell_of variables (draft.Event e) = None
 
 -- TRUE or FALSE
+abbrev pub truth_value : DraftOperand → Option Expr
+truth_value (o.Truth b) = Some (record { items = record { factor = pos 1; operand = operand.Truth b } ∷ [] })
+truth_value o.One = None
+truth_value (o.Plain name) = None
+truth_value (o.Primed name) = None
+
 abbrev pub value_of : DraftSide → Option Expr
-value_of side = of_operand (single side)
-  where
-    of_operand : Option DraftOperand → Option Expr
-    of_operand (Some (o.Truth b)) = Some (record { items = record { factor = pos 1; operand = operand.Truth b } ∷ [] })
-    of_operand other = None
+value_of side = option_and_then truth_value (single side)
 
 -- ---- the whole
 
