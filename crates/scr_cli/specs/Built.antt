@@ -6,6 +6,8 @@ use Rattle.std.specs.Ordering.{int_eq}
 use Rattle.std.specs.Str.{bytes_eq}
 use Rattle.scr_spec.specs.Data.{Data}
 use Rattle.scr_spec.specs.Meaning.{truth_code}
+use Rattle.scr_spec.specs.Sound.{IsSound}
+use Rattle.scr_spec.specs.Types.{is_monitored_role, is_kind_sound, is_bound_sound}
 use Rattle.scr_spec.specs.declared.cond.Expr.{Expr}
 use Rattle.scr_spec.specs.declared.cond.Operand.TheVariants as operand
 use Rattle.scr_spec.specs.declared.cond.Cond.{Cond}
@@ -16,6 +18,7 @@ use Rattle.scr_spec.specs.declared.spec.Kind.TheVariants as kind
 use Rattle.scr_spec.specs.declared.spec.Variable.{Variable}
 use Rattle.scr_spec.specs.declared.table.Cell.{Cell}
 use Rattle.scr_spec.specs.declared.table.Cell.TheVariants as cell
+use Rattle.scr_spec.specs.declared.table.Heading.{Heading}
 use Rattle.scr_spec.specs.declared.table.Heading.TheVariants as heading
 use Rattle.scr_spec.specs.declared.table.Table.{Table}
 use Rattle.scr_reader.specs.declared.draft.DraftItem.{DraftItem}
@@ -39,10 +42,6 @@ use Rattle.scr_reader.specs.Text.{TextReads}
 
 abbrev pub is_named : List ℕ → Variable → Bool
 is_named name x = bytes_eq name x.name
-
-abbrev pub is_monitored_role : Role → Bool
-is_monitored_role role.Monitored = true
-is_monitored_role other = false
 
 abbrev pub is_monitored : Variable → Bool
 is_monitored x = is_monitored_role x.role
@@ -93,6 +92,10 @@ variables_of (s ∷ ss) = option_map_or (λ x. x ∷ variables_of ss) (declared 
 abbrev pub behind : List Statement → List Statement
 behind [] = []
 behind (s ∷ ss) = option_map_or (λ x. behind ss) (declared s) (s ∷ ss)
+
+-- a variable that each rule of a specification without types allows
+abbrev pub is_plain : Variable → Bool
+is_plain x = is_kind_sound [] x.kind && is_bound_sound [] x
 
 -- ---- cells and values
 
@@ -149,8 +152,12 @@ abbrev pub table_of : ℕ → List Cell → List Expr → Table
 table_of v cells values = record { variable = v; heading = heading.Condition; class = None;
     rows = record { modes = []; cells = cells; targets = [] } ∷ []; values = values }
 
-abbrev pub data_with : List ℕ → List Variable → Table → Data
-data_with name variables table = record { name = name; types = []; constants = []; variables = variables; tables = table ∷ [] }
+abbrev pub data_over : List ℕ → List Variable → List Table → Data
+data_over name variables tables = record { name = name; types = []; constants = []; variables = variables; tables = tables }
+
+-- the tables keep the rules of a specification over these variables, whatever its name
+abbrev pub IsSoundOver : List Variable → List Table → Type 0
+IsSoundOver variables tables = (name : List ℕ) → IsSound (data_over name variables tables)
 
 -- one name each, one variable that is not monitored, and at most twelve that are
 abbrev pub are_built : List Variable → Bool
@@ -166,23 +173,79 @@ cells_of variables cells = all_there (map (cell_of variables) cells)
 abbrev pub values_of : List DraftSide → Option (List Expr)
 values_of sides = all_there (map value_of sides)
 
--- the table has one row, with as many cells as values
-abbrev pub with_table : List ℕ → List Variable → List ℕ → List DraftCell → List DraftSide → Option Data
-with_table name variables t cells sides =
-    if are_built variables && length cells == length sides
-    then option_and_then (λ v. option_and_then (λ cs. option_map (λ es. data_with name variables (table_of v cs es)) (values_of sides))
-        (cells_of variables cells)) (dependent_place variables t)
+-- the one table: it has one row, of at most 16 cells, and as many values
+abbrev pub tables_of : List Variable → List ℕ → List DraftCell → List DraftSide → Option (List Table)
+tables_of variables t cells sides =
+    if are_built variables && length cells == length sides && nat_le (length cells) 16
+    then option_and_then (λ v. option_and_then (λ cs. option_map (λ es. table_of v cs es ∷ []) (values_of sides)) (cells_of variables cells))
+        (dependent_place variables t)
     else None
 
+abbrev pub with_table : List ℕ → List Variable → List ℕ → List DraftCell → List DraftSide → Option Data
+with_table name variables t cells sides = option_map (data_over name variables) (tables_of variables t cells sides)
+
+abbrev pub head_name : Heading → List ℕ → Option (List ℕ) → Option (List ℕ)
+head_name heading.Condition name None = Some name
+head_name heading.Condition name (Some over) = None
+head_name heading.Event name over = None
+head_name heading.Modes name over = None
+
+-- the variable of a condition table without a class
+abbrev pub condition_head : Statement → Option (List ℕ)
+condition_head (st.Head heading name over) = head_name heading name over
+condition_head other = None
+
+abbrev pub cells_without_modes : List (List ℕ) → List DraftCell → Option (List DraftCell)
+cells_without_modes [] cells = Some cells
+cells_without_modes (mode ∷ modes) cells = None
+
+-- the cells of a row without modes
+abbrev pub row_cells : Statement → Option (List DraftCell)
+row_cells (st.Row modes cells) = cells_without_modes modes cells
+row_cells other = None
+
+-- the sides of a VALUES line
+abbrev pub value_sides : Statement → Option (List DraftSide)
+value_sides (st.Values sides) = Some sides
+value_sides other = None
+
+abbrev pub is_end : Statement → Bool
+is_end st.End = true
+is_end other = false
+
+abbrev pub is_finish : Statement → Bool
+is_finish st.Finish = true
+is_finish other = false
+
+-- END and FINISH, and nothing else
+abbrev pub is_closing : List Statement → Bool
+is_closing (s ∷ t ∷ []) = is_end s && is_finish t
+is_closing other = false
+
+-- a head, a row and values
+abbrev pub with_parts : List ℕ → List Variable → Statement → Statement → Statement → Option Data
+with_parts name variables head row values =
+    option_and_then (λ t. option_and_then (λ cells. option_and_then (λ sides. with_table name variables t cells sides) (value_sides values))
+    (row_cells row)) (condition_head head)
+
+-- one table, and then the end
 abbrev pub with_tables : List ℕ → List Variable → List Statement → Option Data
-with_tables name variables (st.Head heading.Condition t None ∷ st.Row [] cells ∷ st.Values sides ∷ st.End ∷ st.Finish ∷ []) =
-    with_table name variables t cells sides
-with_tables name variables other = None
+with_tables name variables [] = None
+with_tables name variables (head ∷ []) = None
+with_tables name variables (head ∷ row ∷ []) = None
+with_tables name variables (head ∷ row ∷ values ∷ rest) = if is_closing rest then with_parts name variables head row values else None
+
+abbrev pub from_declarations : List ℕ → List Statement → Option Data
+from_declarations name ss = with_tables name (variables_of ss) (behind ss)
+
+abbrev pub from_first : Statement → List Statement → Option Data
+from_first (st.Specification name) rest = from_declarations name rest
+from_first other rest = None
 
 -- what the statements spell, where it is judged so far
 abbrev pub spec_of : List Statement → Option Data
-spec_of (st.Specification name ∷ rest) = with_tables name (variables_of rest) (behind rest)
-spec_of other = None
+spec_of [] = None
+spec_of (s ∷ rest) = from_first s rest
 
 -- the statements without their lines
 abbrev pub statements : List Numbered → List Statement

@@ -1,9 +1,12 @@
 //! From the statements of a text to the specification that they spell, where it is judged so far.
-ghost use Rattle.std.specs.Prelude.{◌≡◌, ◌&&◌, ◌<◌, ◌∷◌, map, not, position, count_by, length, option_and_then, IfOk, IfSome};
+ghost use Rattle.std.specs.Prelude.{◌≡◌, ◌&&◌, ◌<◌, [], ◌∷◌, map, not, position, count_by, length, option_map, option_and_then, IfOk, IfSome, MatchOption, Some, None, true};
 ghost use Rattle.std.specs.Option.{option_copied};
+ghost use Rattle.std.specs.List.{list_all, list_any};
+ghost use Rattle.scr_spec.specs.Shown.{data_of};
+ghost use Rattle.scr_spec.specs.Sound.{IsSound};
 ghost use Rattle.scr_cli.specs.Built as spec;
 
-use scr_reader::{DraftCell, DraftCond, DraftItem, DraftKind, DraftOperand, DraftSide, DraftValue, Numbered, Statement};
+use scr_reader::{Draft, DraftCell, DraftCond, DraftItem, DraftKind, DraftOperand, DraftSide, DraftValue, Numbered, Statement};
 use scr_spec::{Cell, Cond, Expr, Heading, Item, Kind, Operand, Role, Row, Spec, Table, Variable};
 use scr_text::{Name, NoMemory};
 use sqlite_items::{Boxed, Items};
@@ -11,6 +14,9 @@ use std::alloc::Global;
 
 /// At most so many monitored variables: all their states are gone through.
 const MONITORED: usize = 12;
+
+/// At most so many cells in a row.
+const COLUMNS: usize = 16;
 
 fn is_named(name: &Name, variable: &Variable) -> bool
     ensures { result ≡ spec.is_named name.now variable.now }
@@ -246,12 +252,18 @@ fn values_of(alloc: Global, sides: &[DraftSide]) -> Result<Option<Items<Expr>>, 
     Ok(Some(found))
 }
 
+fn is_among(name: &Name, variables: &[Variable]) -> bool
+    ensures { result ≡ list_any (spec.is_named name.now) variables.now }
+{
+    variables.iter().any(|x| is_named(name, x))
+}
+
 fn are_distinct(variables: &[Variable]) -> bool
     ensures { result ≡ spec.are_distinct variables.now }
 {
     let mut here = variables;
     'variables: while let Some((first, rest)) = here.split_first() {
-        if rest.iter().any(|other| is_named(&first.name, other)) {
+        if is_among(&first.name, rest) {
             return false;
         }
         here = rest;
@@ -275,4 +287,228 @@ fn are_built(variables: &[Variable]) -> bool
     ensures { result ≡ spec.are_built variables.now }
 {
     are_distinct(variables) && dependent_count(variables) == 1 && monitored_count(variables) <= MONITORED
+}
+
+/// A row without modes.
+fn single_row(alloc: Global, cells: Items<Cell>) -> Result<Items<Row>, NoMemory>
+    ensures { IfOk result (λ rows. rows ≡ record { modes = []; cells = cells; targets = [] } ∷ []) }
+{
+    let row = Row { modes: Items::new(alloc), cells, targets: Items::new(alloc) };
+    let mut rows = Items::new(alloc);
+    rows.push(row)?;
+    Ok(rows)
+}
+
+fn table_of(alloc: Global, v: usize, cells: Items<Cell>, values: Items<Expr>) -> Result<Items<Table>, NoMemory>
+    ensures { IfOk result (λ tables. tables ≡ spec.table_of v cells values ∷ []) }
+{
+    let rows = single_row(alloc, cells)?;
+    let table = Table { variable: v, heading: Heading::Condition, class: None, rows, values };
+    let mut tables = Items::new(alloc);
+    tables.push(table)?;
+    Ok(tables)
+}
+
+fn spec_with(alloc: Global, name: Name, variables: Items<Variable>, tables: Items<Table>) -> Spec
+    requires { IsSound (spec.data_over name variables tables) }
+    ensures { data_of result ≡ spec.data_over name variables tables }
+{
+    Spec { name, types: Items::new(alloc), constants: Items::new(alloc), variables, tables }
+}
+
+/// The one table, where its parts are such as are judged.
+fn tables_of(
+    alloc: Global,
+    variables: &[Variable],
+    t: &Name,
+    cells: &[DraftCell],
+    sides: &[DraftSide],
+) -> Result<Option<Items<Table>>, NoMemory>
+    requires { list_all spec.is_plain variables.now ≡ true }
+    ensures made { IfOk result (λ made. made ≡ spec.tables_of variables.now t.now cells.now sides.now) }
+    ensures sound { IfOk result (λ made. IfSome made (spec.IsSoundOver variables.now)) }
+{
+    if !are_built(variables) || cells.len() != sides.len() || cells.len() > COLUMNS {
+        return Ok(None);
+    }
+    let Some(v) = dependent_place(variables, t) else {
+        return Ok(None);
+    };
+    let Some(cells) = cells_of(alloc, variables, cells)? else {
+        return Ok(None);
+    };
+    let Some(values) = values_of(alloc, sides)? else {
+        return Ok(None);
+    };
+    Ok(Some(table_of(alloc, v, cells, values)?))
+}
+
+/// The specification with one condition table of one row.
+fn with_table(
+    alloc: Global,
+    name: &Name,
+    variables: Items<Variable>,
+    t: &Name,
+    cells: &[DraftCell],
+    sides: &[DraftSide],
+) -> Result<Option<Spec>, NoMemory>
+    requires { list_all spec.is_plain variables ≡ true }
+    ensures { IfOk result (λ made. option_map data_of made ≡ spec.with_table name.now variables t.now cells.now sides.now) }
+{
+    match tables_of(alloc, variables.as_slice(), t, cells, sides)? {
+        None => Ok(None),
+        Some(tables) => {
+            let name = name.copy(alloc)?;
+            Ok(Some(spec_with(alloc, name, variables, tables)))
+        }
+    }
+}
+
+fn head_name<'a>(heading: Heading, name: &'a Name, over: &Option<Name>) -> Option<&'a Name>
+    ensures { option_copied result ≡ spec.head_name heading name.now over.now }
+{
+    match heading {
+        Heading::Condition => match over {
+            None => Some(name),
+            Some(_) => None,
+        },
+        Heading::Event => None,
+        Heading::Modes => None,
+    }
+}
+
+fn condition_head(statement: &Statement) -> Option<&Name>
+    ensures { option_copied result ≡ spec.condition_head statement.now }
+{
+    match statement {
+        Statement::Head(heading, name, over) => head_name(*heading, name, over),
+        _ => None,
+    }
+}
+
+fn row_cells(statement: &Statement) -> Option<&[DraftCell]>
+    ensures { MatchOption result (spec.row_cells statement.now ≡ None) (λ cells. spec.row_cells statement.now ≡ Some cells.now) }
+{
+    match statement {
+        Statement::Row(modes, cells) => {
+            if modes.is_empty() {
+                Some(cells.as_slice())
+            } else {
+                None
+            }
+        }
+        _ => None,
+    }
+}
+
+fn value_sides(statement: &Statement) -> Option<&[DraftSide]>
+    ensures { MatchOption result (spec.value_sides statement.now ≡ None) (λ sides. spec.value_sides statement.now ≡ Some sides.now) }
+{
+    match statement {
+        Statement::Values(sides) => Some(sides.as_slice()),
+        _ => None,
+    }
+}
+
+fn is_end(statement: &Statement) -> bool
+    ensures { result ≡ spec.is_end statement.now }
+{
+    match statement {
+        Statement::End => true,
+        _ => false,
+    }
+}
+
+fn is_finish(statement: &Statement) -> bool
+    ensures { result ≡ spec.is_finish statement.now }
+{
+    match statement {
+        Statement::Finish => true,
+        _ => false,
+    }
+}
+
+/// The first line, and the lines behind it.
+fn first_line(lines: &[Numbered]) -> Option<(&Statement, &[Numbered])>
+    ensures { MatchOption result (spec.statements lines.now ≡ []) (λ x. spec.statements lines.now ≡ x.0.now ∷ spec.statements x.1.now) }
+{
+    match lines.split_first() {
+        Some((line, rest)) => Some((&line.statement, rest)),
+        None => None,
+    }
+}
+
+fn is_closing(lines: &[Numbered]) -> bool
+    ensures { result ≡ spec.is_closing (spec.statements lines.now) }
+{
+    match first_line(lines) {
+        None => false,
+        Some((end, rest)) => match first_line(rest) {
+            None => false,
+            Some((finish, rest)) => rest.is_empty() && is_end(end) && is_finish(finish),
+        },
+    }
+}
+
+fn with_parts(
+    alloc: Global,
+    name: &Name,
+    variables: Items<Variable>,
+    head: &Statement,
+    row: &Statement,
+    values: &Statement,
+) -> Result<Option<Spec>, NoMemory>
+    requires { list_all spec.is_plain variables ≡ true }
+    ensures { IfOk result (λ made. option_map data_of made ≡ spec.with_parts name.now variables head.now row.now values.now) }
+{
+    let Some(t) = condition_head(head) else {
+        return Ok(None);
+    };
+    let Some(cells) = row_cells(row) else {
+        return Ok(None);
+    };
+    let Some(sides) = value_sides(values) else {
+        return Ok(None);
+    };
+    with_table(alloc, name, variables, t, cells, sides)
+}
+
+fn with_tables(alloc: Global, name: &Name, variables: Items<Variable>, lines: &[Numbered]) -> Result<Option<Spec>, NoMemory>
+    requires { list_all spec.is_plain variables ≡ true }
+    ensures { IfOk result (λ made. option_map data_of made ≡ spec.with_tables name.now variables (spec.statements lines.now)) }
+{
+    let Some((head, rest)) = first_line(lines) else {
+        return Ok(None);
+    };
+    let Some((row, rest)) = first_line(rest) else {
+        return Ok(None);
+    };
+    let Some((values, rest)) = first_line(rest) else {
+        return Ok(None);
+    };
+    if is_closing(rest) {
+        with_parts(alloc, name, variables, head, row, values)
+    } else {
+        Ok(None)
+    }
+}
+
+fn from_declarations(alloc: Global, name: &Name, lines: &[Numbered]) -> Result<Option<Spec>, NoMemory>
+    ensures { IfOk result (λ made. option_map data_of made ≡ spec.from_declarations name.now (spec.statements lines.now)) }
+{
+    let (variables, rest) = variables_of(alloc, lines)?;
+    with_tables(alloc, name, variables, rest)
+}
+
+/// The specification that a draft spells, where it is one that is judged.
+pub(crate) fn spec_of(alloc: Global, draft: &Draft) -> Result<Option<Spec>, NoMemory>
+    ensures { IfOk result (λ made. option_map data_of made ≡ spec.spec_of (spec.statements draft.now.statements)) }
+{
+    let Some((first, rest)) = first_line(draft.statements.as_slice()) else {
+        return Ok(None);
+    };
+    match first {
+        Statement::Specification(name) => from_declarations(alloc, name, rest),
+        _ => Ok(None),
+    }
 }
