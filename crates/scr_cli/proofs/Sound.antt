@@ -1,6 +1,6 @@
 -- The specification that the statements spell keeps the rules of a specification.
-use Rattle.std.proofs.Common.{◌≡◌, ℕ, ◌<◌, ◌≤◌, zero, suc, pos, Bool, true, false, ◌&&◌, List, [], ◌∷◌, map, length, Option, Some, None, IsTrue, refl, sym, ap, subst, ◌∙◌, arith}
-use Rattle.std.specs.Prelude.{nat_lt, nat_le, position, option_map, option_and_then}
+use Rattle.std.proofs.Common.{◌≡◌, ℕ, ◌<◌, ◌≤◌, ◌==◌, cond, zero, suc, ℤ, pos, Bool, true, false, ◌&&◌, List, [], ◌∷◌, map, length, Option, Some, None, IsTrue, refl, sym, ap, subst, ◌∙◌, arith}
+use Rattle.std.specs.Prelude.{nat_lt, nat_le, int_le, is_none, position, option_map, option_and_then}
 use Rattle.std.specs.List.{list_all}
 use Rattle.std.specs.Ordering.{int_eq}
 use Rattle.std.proofs.lemmas.List.Folds.{list_all-map}
@@ -24,13 +24,16 @@ use Rattle.scr_reader.specs.declared.draft.DraftCell.TheVariants as draft_cell
 use Rattle.scr_reader.specs.declared.draft.DraftCond.{DraftCond, fold-DraftCond, fold-roll-DraftCond, ind-DraftCond}
 use Rattle.scr_reader.specs.declared.draft.DraftCond.TheOpen as draft
 use Rattle.scr_reader.specs.declared.draft.DraftCond.TheFolds.{map-DraftCond}
-use Rattle.scr_cli.specs.Built.{is_named, is_monitored, single, atom_of, all_there, cond_step, cond_of, cell_of, cells_of, value_of, values_of, truth_value, with_init, without_init, declared_boolean, declared_kind, declared, variables_of, data_over, table_of, is_plain, IsSoundOver}
+use Rattle.scr_cli.specs.Built.{is_named, is_monitored, single, atom_of, all_there, cond_step, cond_of, cell_of, cells_of, value_of, values_of, truth_value, with_init, without_init, declared_boolean, declared_kind, declared, variables_of, data_over, table_of, is_plain, is_boolean, IsSoundOver, are_built, dependent_place, tables_of, with_table, with_parts, with_tables, from_declarations, from_first, spec_of, behind, condition_head, row_cells, value_sides, is_closing}
+use Rattle.scr_cli.specs.Search.{is_judgeable}
 use Rattle.scr_spec.specs.declared.table.Table.{Table}
 use Rattle.std.proofs.lemmas.List.{length-map}
 use Rattle.std.proofs.lemmas.List.Quantifiers.{position-Some}
 use Rattle.std.proofs.lemmas.Bool.Decides.{nat_tests}
 use Rattle.std.specs.Option.{option_map_or}
-use Rattle.scr_spec.specs.Types.{is_kind_sound, is_bound_sound}
+use Rattle.scr_spec.specs.Types.{is_kind_sound, is_bound_sound, is_monitored_role, is_integer_kind, is_narrow}
+use Rattle.scr_spec.specs.declared.spec.Kind.{Kind}
+use Rattle.scr_spec.specs.declared.spec.Kind.TheVariants as kind
 use Rattle.scr_spec.specs.declared.spec.Role.{Role}
 use Rattle.scr_spec.specs.declared.spec.Role.TheVariants as role
 use Rattle.scr_reader.specs.declared.draft.DraftKind.{DraftKind}
@@ -62,7 +65,7 @@ over_And spec ds = ap (is_cond_over spec) (sym (c.rolls-And ds)) ∙ fold-roll-C
 over_Or : (spec : Data) (ds : List Cond) → is_cond_over spec (c.Or ds) ≡ list_all (is_cond_over spec) ds
 over_Or spec ds = ap (is_cond_over spec) (sym (c.rolls-Or ds)) ∙ fold-roll-Cond Bool (over_step spec) (layer.Or ds) ∙ list_all-map (λ t. t) (is_cond_over spec) ds
 
-and_true : (a b : Bool) → a ≡ true → b ≡ true → (a && b) ≡ true
+pub and_true : (a b : Bool) → a ≡ true → b ≡ true → (a && b) ≡ true
 and_true true b h k = k
 and_true false b h k = absurd (cc)
 
@@ -205,24 +208,34 @@ pub plain_variables : (ss : List Statement) → list_all is_plain (variables_of 
 plain_variables [] = refl
 plain_variables (s ∷ ss) = plain_by (declared s) (variables_of ss) (plain_declared s) (plain_variables ss)
 
-and_left : (a b : Bool) → (a && b) ≡ true → a ≡ true
+pub and_left : (a b : Bool) → (a && b) ≡ true → a ≡ true
 and_left true b h = refl
 and_left false b h = h
 
-and_right : (a b : Bool) → (a && b) ≡ true → b ≡ true
+pub and_right : (a b : Bool) → (a && b) ≡ true → b ≡ true
 and_right true b h = h
 and_right false b h = absurd (cc)
+
+boolean_kind : (k : Kind) → is_boolean k ≡ true → is_kind_sound [] k ≡ true
+boolean_kind kind.Boolean h = refl
+boolean_kind (kind.Named k) h = absurd (cc)
+boolean_kind (kind.Modes names) h = absurd (cc)
+
+unbound : (f : ℤ → Bool) (bound : Option ℤ) → is_none bound ≡ true → option_map_or f bound true ≡ true
+unbound f None h = refl
+unbound f (Some k) h = absurd (cc)
 
 plain_kinds : (xs : List Variable) → list_all is_plain xs ≡ true → list_all (λ x. is_kind_sound [] x.kind) xs ≡ true
 plain_kinds [] h = refl
 plain_kinds (x ∷ xs) h =
-    and_true _ _ (and_left (is_kind_sound [] x.kind) (is_bound_sound [] x) (and_left (is_plain x) (list_all is_plain xs) h))
+    and_true _ _ (boolean_kind x.kind (and_left (is_boolean x.kind) (is_none x.bound) (and_left (is_plain x) (list_all is_plain xs) h)))
     (plain_kinds xs (and_right (is_plain x) (list_all is_plain xs) h))
 
 plain_bounds : (xs : List Variable) → list_all is_plain xs ≡ true → list_all (is_bound_sound []) xs ≡ true
 plain_bounds [] h = refl
 plain_bounds (x ∷ xs) h =
-    and_true _ _ (and_right (is_kind_sound [] x.kind) (is_bound_sound [] x) (and_left (is_plain x) (list_all is_plain xs) h))
+    and_true _ _ (unbound (λ k. is_monitored_role x.role && is_integer_kind [] x.kind && int_le (pos 1) k && is_narrow k) x.bound
+        (and_right (is_boolean x.kind) (is_none x.bound) (and_left (is_plain x) (list_all is_plain xs) h)))
     (plain_bounds xs (and_right (is_plain x) (list_all is_plain xs) h))
 
 -- ---- the whole
@@ -263,3 +276,55 @@ made_sound variables v cells values tables drafts sides plain place made given f
     let there : nat_lt v (length variables) ≡ true = grind (arith, nat_tests) in
     let small : nat_le (length cells) 16 ≡ true = grind (arith, nat_tests) in
     rw is (sound name variables v cells values plain there over sides_over small)
+
+-- ---- what is spelled is judged
+
+always : {X : Type 0} (r : Option X) → IfMade (λ x. true) r
+always None = tt
+always (Some x) = refl
+
+judgeable_table : (name : List ℕ) (ss : List Statement) (t : List ℕ) (cells : List DraftCell) (sides : List DraftSide)
+    → IfMade is_judgeable (with_table name (variables_of ss) t cells sides)
+judgeable_table name ss t cells sides = one (tables_of (variables_of ss) t cells sides) (one_table (variables_of ss) t cells sides)
+  where
+    one : (r : Option (List Table)) → IfMade (λ tables. length tables == 1) r → IfMade is_judgeable (option_map (data_over name (variables_of ss)) r)
+    one r h = map_made (data_over name (variables_of ss)) (λ tables. length tables == 1) is_judgeable r
+        (λ tables k. and_true _ _ (plain_variables ss) k) h
+    by_test : (b : Bool) (r : Option (List Table)) → IfMade (λ tables. length tables == 1) r → IfMade (λ tables. length tables == 1) (cond b r None)
+    by_test true r h = h
+    by_test false r h = tt
+    one_table : (variables : List Variable) (t : List ℕ) (cells : List DraftCell) (sides : List DraftSide) → IfMade (λ tables. length tables == 1) (tables_of variables t cells sides)
+    one_table variables t cells sides = by_test _ _ (then_made _ _ (dependent_place variables t) (λ v. then_made _ _ (cells_of variables cells)
+        (λ cs. map_made _ (λ es. true) (λ tables. length tables == 1) (values_of sides) (λ es k. refl) (always (values_of sides)))))
+
+judgeable_by : (b : Bool) (r : Option Data) → IfMade is_judgeable r → IfMade is_judgeable (cond b r None)
+judgeable_by true r h = h
+judgeable_by false r h = tt
+
+judgeable_tables : (name : List ℕ) (ss lines : List Statement) → IfMade is_judgeable (with_tables name (variables_of ss) lines)
+judgeable_tables name ss [] = tt
+judgeable_tables name ss (head ∷ []) = tt
+judgeable_tables name ss (head ∷ row ∷ []) = tt
+judgeable_tables name ss (head ∷ row ∷ values ∷ rest) =
+    judgeable_by (is_closing rest) (with_parts name (variables_of ss) head row values)
+    (then_made _ _ (condition_head head) (λ t. then_made _ _ (row_cells row) (λ cells. then_made _ _ (value_sides values) (λ sides. judgeable_table name ss t cells sides))))
+
+judgeable_first : (s : Statement) (rest : List Statement) → IfMade is_judgeable (from_first s rest)
+judgeable_first (st.Specification name) rest = judgeable_tables name rest (behind rest)
+judgeable_first (st.Range name lo hi) rest = tt
+judgeable_first (st.Labels name names) rest = tt
+judgeable_first (st.Constant name value) rest = tt
+judgeable_first (st.Variable r name kind init) rest = tt
+judgeable_first (st.Class name modes first) rest = tt
+judgeable_first (st.Head heading name over) rest = tt
+judgeable_first (st.Nat name n) rest = tt
+judgeable_first (st.Row modes cells) rest = tt
+judgeable_first (st.Values sides) rest = tt
+judgeable_first (st.Transition source target e) rest = tt
+judgeable_first st.End rest = tt
+judgeable_first st.Finish rest = tt
+
+-- a specification that is spelled is one of Booleans with one table
+pub judgeable : (ss : List Statement) → IfMade is_judgeable (spec_of ss)
+judgeable [] = tt
+judgeable (s ∷ rest) = judgeable_first s rest

@@ -1,5 +1,5 @@
 -- The specifications that are judged so far: Booleans, one of them with a condition table over the monitored ones.
-use Rattle.std.specs.Prelude.{◌≡◌, ℕ, ◌==◌, nat_le, ℤ, pos, Bool, true, false, not, ◌&&◌, if◌then◌else◌, List, [], ◌∷◌, length, map, count_by, position, Option, Some, None, option_map, option_and_then}
+use Rattle.std.specs.Prelude.{◌≡◌, ℕ, ◌==◌, nat_le, ℤ, pos, Bool, true, false, not, ◌&&◌, if◌then◌else◌, List, [], ◌∷◌, length, map, count_by, position, Option, Some, None, is_none, option_map, option_and_then}
 use Rattle.std.specs.Option.{option_map_or}
 use Rattle.std.specs.List.{list_any}
 use Rattle.std.specs.Ordering.{int_eq}
@@ -7,13 +7,14 @@ use Rattle.std.specs.Str.{bytes_eq}
 use Rattle.scr_spec.specs.Data.{Data}
 use Rattle.scr_spec.specs.Meaning.{truth_code}
 use Rattle.scr_spec.specs.Sound.{IsSound}
-use Rattle.scr_spec.specs.Types.{is_monitored_role, is_kind_sound, is_bound_sound}
+use Rattle.scr_spec.specs.Types.{is_monitored_role}
 use Rattle.scr_spec.specs.declared.cond.Expr.{Expr}
 use Rattle.scr_spec.specs.declared.cond.Operand.TheVariants as operand
 use Rattle.scr_spec.specs.declared.cond.Cond.{Cond}
 use Rattle.scr_spec.specs.declared.cond.Cond.TheVariants as cond
 use Rattle.scr_spec.specs.declared.spec.Role.{Role}
 use Rattle.scr_spec.specs.declared.spec.Role.TheVariants as role
+use Rattle.scr_spec.specs.declared.spec.Kind.{Kind}
 use Rattle.scr_spec.specs.declared.spec.Kind.TheVariants as kind
 use Rattle.scr_spec.specs.declared.spec.Variable.{Variable}
 use Rattle.scr_spec.specs.declared.table.Cell.{Cell}
@@ -93,9 +94,14 @@ abbrev pub behind : List Statement → List Statement
 behind [] = []
 behind (s ∷ ss) = option_map_or (λ x. behind ss) (declared s) (s ∷ ss)
 
--- a variable that each rule of a specification without types allows
+abbrev pub is_boolean : Kind → Bool
+is_boolean kind.Boolean = true
+is_boolean (kind.Named k) = false
+is_boolean (kind.Modes names) = false
+
+-- a Boolean without a bound
 abbrev pub is_plain : Variable → Bool
-is_plain x = is_kind_sound [] x.kind && is_bound_sound [] x
+is_plain x = is_boolean x.kind && is_none x.bound
 
 -- ---- cells and values
 
