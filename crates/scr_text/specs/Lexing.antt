@@ -1,4 +1,4 @@
--- What a line is read as is one thing.
+-- A line has one outcome.
 use Rattle.std.specs.Prelude.{◌≡◌, ◌≢◌, ℕ, List}
 use Rattle.scr_text.specs.declared.fault.LexFault.{LexFault}
 use Rattle.scr_text.specs.declared.fault.LexFault.TheVariants.{NoMemory}

@@ -1,6 +1,7 @@
 -- The pieces that a line is cut into, longest first.
-use Rattle.std.specs.Prelude.{◌≡◌, ℕ, zero, suc, ◌+◌, ◌<◌, ◌≤◌, Bool, true, false, ◌&&◌, ◌||◌, if◌then◌else◌, ◌==◌, List, [], ◌∷◌, length, take}
+use Rattle.std.specs.Prelude.{◌≡◌, ℕ, suc, ◌<◌, ◌≤◌, Bool, true, false, ◌&&◌, ◌||◌, if◌then◌else◌, ◌==◌, List, [], ◌∷◌, length, take}
 use Rattle.std.specs.Char.{is_ascii_alphabetic, is_ascii_digit}
+use Rattle.std.specs.List.{list_all, prefix_len}
 
 -- a letter, a digit or `_`
 abbrev pub is_word_byte : ℕ → Bool
@@ -29,24 +30,14 @@ abbrev pub is_name_rest : List ℕ → Bool
 is_name_rest [] = true
 is_name_rest (b ∷ bytes) = (is_word_byte b && is_name_rest bytes) || (b == 39 && is_nothing bytes)
 
--- digits alone
-abbrev pub is_digits : List ℕ → Bool
-is_digits [] = true
-is_digits (b ∷ bytes) = is_ascii_digit b && is_digits bytes
-
--- letters, digits and `_` alone
-abbrev pub is_word_bytes : List ℕ → Bool
-is_word_bytes [] = true
-is_word_bytes (b ∷ bytes) = is_word_byte b && is_word_bytes bytes
-
 -- the bytes are one piece: a name with or without a prime, a number, `@` with all letters, digits
 -- and `_` behind it, or one of the other signs
 abbrev pub is_piece : List ℕ → Bool
 is_piece [] = false
 is_piece (b ∷ bytes) =
     if is_ascii_alphabetic b then is_name_rest bytes
-    else (if is_ascii_digit b then is_digits bytes
-    else (if b == 64 then is_word_bytes bytes
+    else (if is_ascii_digit b then list_all is_ascii_digit bytes
+    else (if b == 64 then list_all is_word_byte bytes
     else (if b == 60 || b == 62 then is_nothing bytes || is_byte 61 bytes
     else (if b == 33 then is_byte 61 bytes
     else (if b == 46 then is_byte 46 bytes
@@ -64,41 +55,26 @@ NoPiece bytes = (m : ℕ) → m ≤ length bytes → is_piece (take m bytes) ≡
 
 -- ---- the length of the longest piece in front, or 0
 
--- how many letters, digits and `_` stand in front
-abbrev pub word_bytes_len : List ℕ → ℕ
-word_bytes_len [] = 0
-word_bytes_len (b ∷ bytes) = if is_word_byte b then suc (word_bytes_len bytes) else 0
-
--- likewise with a prime behind them
+-- how far a name goes on behind its first letter, with a prime that stands there
 abbrev pub name_rest_len : List ℕ → ℕ
 name_rest_len [] = 0
 name_rest_len (b ∷ bytes) = if is_word_byte b then suc (name_rest_len bytes) else (if b == 39 then 1 else 0)
 
--- how many digits stand in front
-abbrev pub digits_len : List ℕ → ℕ
-digits_len [] = 0
-digits_len (b ∷ bytes) = if is_ascii_digit b then suc (digits_len bytes) else 0
-
--- 1 where this byte stands in front
-abbrev pub byte_len : ℕ → List ℕ → ℕ
-byte_len x [] = 0
-byte_len x (b ∷ bytes) = if b == x then 1 else 0
-
--- a sign of this byte and the one before it, where this byte stands in front
-abbrev pub pair_len : ℕ → List ℕ → ℕ
-pair_len x [] = 0
-pair_len x (b ∷ bytes) = if b == x then 2 else 0
+-- this byte stands in front
+abbrev pub starts : ℕ → List ℕ → Bool
+starts x [] = false
+starts x (b ∷ bytes) = b == x
 
 -- the length of the longest piece in front, or 0 where there is none
 unfoldable pub piece_len : List ℕ → ℕ
 piece_len [] = 0
 piece_len (b ∷ bytes) =
     if is_ascii_alphabetic b then suc (name_rest_len bytes)
-    else (if is_ascii_digit b then suc (digits_len bytes)
-    else (if b == 64 then suc (word_bytes_len bytes)
-    else (if b == 60 || b == 62 then suc (byte_len 61 bytes)
-    else (if b == 33 then pair_len 61 bytes
-    else (if b == 46 then pair_len 46 bytes
+    else (if is_ascii_digit b then suc (prefix_len is_ascii_digit bytes)
+    else (if b == 64 then suc (prefix_len is_word_byte bytes)
+    else (if b == 60 || b == 62 then (if starts 61 bytes then 2 else 1)
+    else (if b == 33 then (if starts 61 bytes then 2 else 0)
+    else (if b == 46 then (if starts 46 bytes then 2 else 0)
     else (if is_single b then 1 else 0))))))
 
 -- the length is that of the longest piece in front, or 0 where there is none

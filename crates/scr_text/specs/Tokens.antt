@@ -1,6 +1,6 @@
 -- The tokens of a line, and which lines are refused.
-use Rattle.std.specs.Prelude.{◌≡◌, ℕ, suc, ◌+◌, ◌<◌, ◌≤◌, ◌⊎◌, pos, ◌≤ℤ◌, int_le, Bool, true, false, ◌&&◌, ◌||◌, if◌then◌else◌, ◌==◌, nat_le, List, [], ◌∷◌, length, take, drop, Some}
-use Rattle.std.specs.List.{list_all}
+use Rattle.std.specs.Prelude.{◌≡◌, ℕ, ◌+◌, ◌<◌, ◌≤◌, ◌⊎◌, pos, int_le, Bool, not, true, false, ◌&&◌, ◌||◌, ◌==◌, nat_le, List, [], ◌∷◌, length, take, drop, Some}
+use Rattle.std.specs.List.{list_all, take_while}
 use Rattle.scr_text.specs.declared.fault.LexFault.{LexFault}
 use Rattle.scr_text.specs.declared.fault.LexFault.TheVariants as f
 use Rattle.scr_text.specs.declared.word.Word.{Word}
@@ -16,14 +16,9 @@ pub data Tokens : ℕ → List ℕ → List Token → Type 0 where
   piece : {at n : ℕ} {bytes : List ℕ} {word : Word} {tokens : List Token} → IsLongest bytes n → word_of (take n bytes) ≡ Some word
       → Tokens (at + n) (drop n bytes) tokens → Tokens at bytes (record { column = at; word = word } ∷ tokens)
 
--- how many bytes stand before a comment
-abbrev pub comment_at : List ℕ → ℕ
-comment_at [] = 0
-comment_at (b ∷ bytes) = if b == 35 then 0 else suc (comment_at bytes)
-
--- what stands before a comment
+-- what stands before a comment, which `#` begins
 abbrev pub body : List ℕ → List ℕ
-body line = take (comment_at line) line
+body line = take_while (λ b. not (b == 35)) line
 
 -- a byte that may stand outside comments
 abbrev pub is_allowed : ℕ → Bool

@@ -1,7 +1,9 @@
 -- The word that a piece stands for.
-use Rattle.std.specs.Prelude.{ℕ, ◌+◌, ◌-◌, ◌*◌, min, pos, Bool, if◌then◌else◌, ◌==◌, List, [], ◌∷◌, length, take, slice_index, Option, Some, None, option_map, codes}
+use Rattle.std.specs.Prelude.{ℕ, ◌+◌, ◌-◌, ◌*◌, min, pos, if◌then◌else◌, ◌==◌, List, [], ◌∷◌, length, take, slice_index, Option, Some, None, codes}
 use Rattle.std.specs.Char.{is_ascii_alphabetic, is_ascii_digit}
 use Rattle.std.specs.Str.{bytes_eq}
+use Rattle.std.specs.Map.{lookup}
+use Rattle.std.specs.Option.{option_or}
 use Rattle.scr_text.specs.declared.word.Word.{Word}
 use Rattle.scr_text.specs.declared.word.Word.TheVariants as w
 use Rattle.scr_text.specs.declared.word.Sign.{Sign}
@@ -9,64 +11,74 @@ use Rattle.scr_text.specs.declared.word.Sign.TheVariants as s
 use Rattle.scr_text.specs.declared.word.Keyword.{Keyword}
 use Rattle.scr_text.specs.declared.word.Keyword.TheVariants as k
 
+-- the reserved words of declarations
+unfoldable pub declaration_words : List (List ℕ × Keyword)
+declaration_words =
+    (codes "SPECIFICATION", k.Specification) ∷
+    (codes "TYPE", k.TypeWord) ∷
+    (codes "CONST", k.Const) ∷
+    (codes "MONITORED", k.Monitored) ∷
+    (codes "MODECLASS", k.ModeClass) ∷
+    (codes "TERM", k.Term) ∷
+    (codes "CONTROLLED", k.Controlled) ∷
+    (codes "INIT", k.Init) ∷
+    (codes "BOOLEAN", k.Boolean) ∷
+    (codes "NAT", k.Nat) ∷
+    (codes "STEP", k.Step) ∷
+    (codes "FINISH", k.Finish) ∷
+    (codes "ASSERT", k.Assert) ∷ []
+
+-- the reserved words of tables
+unfoldable pub table_words : List (List ℕ × Keyword)
+table_words =
+    (codes "CONDITION", k.Condition) ∷
+    (codes "EVENT", k.Event) ∷
+    (codes "MODES", k.Modes) ∷
+    (codes "OVER", k.Over) ∷
+    (codes "ROW", k.Row) ∷
+    (codes "VALUES", k.Values) ∷
+    (codes "FROM", k.From) ∷
+    (codes "TO", k.To) ∷
+    (codes "END", k.End) ∷
+    (codes "AND", k.And) ∷
+    (codes "OR", k.Or) ∷
+    (codes "NOT", k.Not) ∷
+    (codes "TRUE", k.True) ∷
+    (codes "FALSE", k.False) ∷
+    (codes "WHEN", k.When) ∷
+    (codes "NEVER", k.Never) ∷ []
+
 -- the reserved word that is spelt so
-unfoldable pub keyword_of : List ℕ → Option Keyword
-keyword_of bytes =
-    if bytes_eq bytes (codes "SPECIFICATION") then Some k.Specification
-    else (if bytes_eq bytes (codes "TYPE") then Some k.TypeWord
-    else (if bytes_eq bytes (codes "CONST") then Some k.Const
-    else (if bytes_eq bytes (codes "MONITORED") then Some k.Monitored
-    else (if bytes_eq bytes (codes "MODECLASS") then Some k.ModeClass
-    else (if bytes_eq bytes (codes "TERM") then Some k.Term
-    else (if bytes_eq bytes (codes "CONTROLLED") then Some k.Controlled
-    else (if bytes_eq bytes (codes "INIT") then Some k.Init
-    else (if bytes_eq bytes (codes "CONDITION") then Some k.Condition
-    else (if bytes_eq bytes (codes "EVENT") then Some k.Event
-    else (if bytes_eq bytes (codes "MODES") then Some k.Modes
-    else (if bytes_eq bytes (codes "OVER") then Some k.Over
-    else (if bytes_eq bytes (codes "ROW") then Some k.Row
-    else (if bytes_eq bytes (codes "VALUES") then Some k.Values
-    else (if bytes_eq bytes (codes "FROM") then Some k.From
-    else (if bytes_eq bytes (codes "TO") then Some k.To
-    else (if bytes_eq bytes (codes "END") then Some k.End
-    else (if bytes_eq bytes (codes "FINISH") then Some k.Finish
-    else (if bytes_eq bytes (codes "AND") then Some k.And
-    else (if bytes_eq bytes (codes "OR") then Some k.Or
-    else (if bytes_eq bytes (codes "NOT") then Some k.Not
-    else (if bytes_eq bytes (codes "TRUE") then Some k.True
-    else (if bytes_eq bytes (codes "FALSE") then Some k.False
-    else (if bytes_eq bytes (codes "WHEN") then Some k.When
-    else (if bytes_eq bytes (codes "NEVER") then Some k.Never
-    else (if bytes_eq bytes (codes "BOOLEAN") then Some k.Boolean
-    else (if bytes_eq bytes (codes "NAT") then Some k.Nat
-    else (if bytes_eq bytes (codes "STEP") then Some k.Step
-    else (if bytes_eq bytes (codes "ASSERT") then Some k.Assert
-    else None))))))))))))))))))))))))))))
+abbrev pub keyword_of : List ℕ → Option Keyword
+keyword_of bytes = option_or (lookup (bytes_eq bytes) declaration_words) (lookup (bytes_eq bytes) table_words)
+
+-- the signs
+unfoldable pub signs : List (List ℕ × Sign)
+signs =
+    (codes "@T", s.AtT) ∷
+    (codes "@F", s.AtF) ∷
+    (codes "@C", s.AtC) ∷
+    (codes "(", s.OpenParen) ∷
+    (codes ")", s.CloseParen) ∷
+    (codes "{", s.OpenBrace) ∷
+    (codes "}", s.CloseBrace) ∷
+    (codes ",", s.Comma) ∷
+    (codes ":", s.Colon) ∷
+    (codes "|", s.Bar) ∷
+    (codes "=", s.Equal) ∷
+    (codes "!=", s.Differ) ∷
+    (codes "<", s.Less) ∷
+    (codes "<=", s.AtMost) ∷
+    (codes ">", s.Greater) ∷
+    (codes ">=", s.AtLeast) ∷
+    (codes "+", s.Plus) ∷
+    (codes "-", s.Minus) ∷
+    (codes "*", s.Times) ∷
+    (codes "..", s.Dots) ∷ []
 
 -- the sign that is spelt so
-unfoldable pub sign_of : List ℕ → Option Sign
-sign_of bytes =
-    if bytes_eq bytes (codes "@T") then Some s.AtT
-    else (if bytes_eq bytes (codes "@F") then Some s.AtF
-    else (if bytes_eq bytes (codes "@C") then Some s.AtC
-    else (if bytes_eq bytes (codes "(") then Some s.OpenParen
-    else (if bytes_eq bytes (codes ")") then Some s.CloseParen
-    else (if bytes_eq bytes (codes "{") then Some s.OpenBrace
-    else (if bytes_eq bytes (codes "}") then Some s.CloseBrace
-    else (if bytes_eq bytes (codes ",") then Some s.Comma
-    else (if bytes_eq bytes (codes ":") then Some s.Colon
-    else (if bytes_eq bytes (codes "|") then Some s.Bar
-    else (if bytes_eq bytes (codes "=") then Some s.Equal
-    else (if bytes_eq bytes (codes "!=") then Some s.Differ
-    else (if bytes_eq bytes (codes "<") then Some s.Less
-    else (if bytes_eq bytes (codes "<=") then Some s.AtMost
-    else (if bytes_eq bytes (codes ">") then Some s.Greater
-    else (if bytes_eq bytes (codes ">=") then Some s.AtLeast
-    else (if bytes_eq bytes (codes "+") then Some s.Plus
-    else (if bytes_eq bytes (codes "-") then Some s.Minus
-    else (if bytes_eq bytes (codes "*") then Some s.Times
-    else (if bytes_eq bytes (codes "..") then Some s.Dots
-    else None)))))))))))))))))))
+abbrev pub sign_of : List ℕ → Option Sign
+sign_of bytes = lookup (bytes_eq bytes) signs
 
 -- a reserved word is no name
 abbrev pub named : List ℕ → Option Keyword → Word
