@@ -2,3 +2,4 @@ pub mod Conditions
 pub mod Sound
 pub mod Least
 pub mod Judged
+pub mod Columns

@@ -28,9 +28,8 @@ reading_text spec at v = codes " " ++ name_of spec v ++ codes "=" ++ truth_text 
 abbrev pub witness_text : Data → Table → Goal → Codes → List ℕ
 witness_text spec table goal at = flat_map (reading_text spec at) (named_by spec table goal)
 
--- columns are printed from 1
 abbrev pub goal_text : Goal → List ℕ
-goal_text (Disjoint i j) = codes "no disjoint row 1 columns " ++ decimal (i + 1) ++ codes " " ++ decimal (j + 1) ++ codes ":"
+goal_text (Disjoint i j) = codes "no disjoint row 1 columns " ++ decimal i ++ codes " " ++ decimal j ++ codes ":"
 goal_text Cover = codes "no cover row 1:"
 
 abbrev pub verdict_text : Data → Table → Verdict → List ℕ

@@ -1,5 +1,5 @@
 -- The search that finds verdicts: the least state of Booleans that passes a test, and the first goal with one.
-use Rattle.std.specs.Prelude.{◌≡◌, ℕ, ◌<◌, zero, suc, ◌==◌, ℤ, pos, Bool, true, false, ◌&&◌, if◌then◌else◌, IsTrue, List, [], ◌∷◌, ◌++◌, length, Option, Some, None, option_map}
+use Rattle.std.specs.Prelude.{◌≡◌, ℕ, ◌<◌, ◌≤◌, zero, suc, ◌==◌, ℤ, pos, Bool, true, false, ◌&&◌, if◌then◌else◌, IsTrue, List, [], ◌∷◌, ◌++◌, length, Option, Some, None, option_map}
 use Rattle.std.specs.Option.{option_or}
 use Rattle.std.specs.List.{list_all}
 use Rattle.scr_spec.specs.Data.{Data}
@@ -32,6 +32,6 @@ pub record IsJudged (spec : Data) (table : Table) : Type 0 where
   pub over : IsTrue (is_table_over spec table)
 
 -- the columns of the goal are there
-abbrev pub is_goal : ℕ → Goal → Type 0
-is_goal n (Disjoint i j) = (i < n) × (j < n)
-is_goal n Cover = Unit {0}
+abbrev pub IsGoal : ℕ → Goal → Type 0
+IsGoal n (Disjoint i j) = (0 < i) × (i ≤ n) × (0 < j) × (j ≤ n)
+IsGoal n Cover = Unit {0}

@@ -26,14 +26,26 @@ use Rattle.scr_cli.specs.declared.verdict.Verdict.TheVariants.{Yes, No}
 abbrev pub column_count : Table → ℕ
 column_count table = option_map_or (λ row. length row.cells) (slice_get table.rows 0) 0
 
+-- the pairs of a column with each later one
+abbrev pub pairs_from : ℕ → ℕ → List Goal
+pairs_from n i = map (λ j. Disjoint i j) (range_with_len (i + 1) (n - i))
+
 -- each pair of columns, lexicographically, and then that some cell holds
 abbrev pub goals_of : ℕ → List Goal
-goals_of n = flat_map (λ i. map (λ j. Disjoint i j) (range_with_len (i + 1) (n - (i + 1)))) (range_with_len 0 n) ++ Cover ∷ []
+goals_of n = flat_map (pairs_from n) (range_with_len 1 n) ++ Cover ∷ []
 
--- the state is against the goal
+-- none of so many cells from this one on holds
+abbrev pub none_from : Data → Table → ℕ → ℕ → Codes → Bool
+none_from spec table k n at = list_all (λ i. not (holds_in spec table 0 i at at)) (range_with_len k n)
+
+-- none of so many cells holds
+abbrev pub none_holds : Data → Table → ℕ → Codes → Bool
+none_holds spec table n at = none_from spec table 0 n at
+
+-- the state is against the goal; columns count from 1
 abbrev pub violates : Data → Table → Goal → Codes → Bool
-violates spec table (Disjoint i j) at = holds_in spec table 0 i at at && holds_in spec table 0 j at at
-violates spec table Cover at = list_all (λ k. not (holds_in spec table 0 k at at)) (range_with_len 0 (column_count table))
+violates spec table (Disjoint i j) at = holds_in spec table 0 (i - 1) at at && holds_in spec table 0 (j - 1) at at
+violates spec table Cover at = none_holds spec table (column_count table) at
 
 -- ---- the least state
 
@@ -101,7 +113,7 @@ abbrev pub column_names : ℕ → List Cell → ℕ → Bool
 column_names v cells k = option_map_or (cell_names v) (slice_get cells k) false
 
 abbrev pub goal_names : ℕ → List Cell → Goal → Bool
-goal_names v cells (Disjoint i j) = column_names v cells i || column_names v cells j
+goal_names v cells (Disjoint i j) = column_names v cells (i - 1) || column_names v cells (j - 1)
 goal_names v cells Cover = list_any (cell_names v) cells
 
 -- the cells of the row

@@ -2,6 +2,7 @@
 #![tactic(auto)]
 
 mod built;
+mod judge;
 mod status;
 mod verdict;
 

@@ -2,11 +2,11 @@
 
 use scr_spec::State;
 
-/// What a table must not allow: two cells that hold together, by their columns from 0, or a state
+/// What a table must not allow: two cells that hold together, by their columns from 1, or a state
 /// at which no cell holds.
 #[derive(Clone, Copy, Debug, PartialEq, Eq)]
 pub(crate) enum Goal {
-    Disjoint(usize, usize),
+    Disjoint(u32, u32),
     Cover,
 }
 
