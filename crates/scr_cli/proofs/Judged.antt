@@ -62,13 +62,13 @@ plain_at (x ∷ xs) h (suc v) k = let p = plain_at xs (and_right (is_plain x) (l
 domain_at : (spec : Data) (v : ℕ) (x : Variable) → slice_get spec.variables v ≡ Some x → domain_of spec v ≡ kind_domain spec.types x.kind
 domain_at spec v x e = rw e refl
 
-typed_bits : (spec : Data) (codes : Codes) → list_all is_plain spec.variables ≡ true → IsTyped spec codes → AreBits codes
+pub typed_bits : (spec : Data) (codes : Codes) → list_all is_plain spec.variables ≡ true → IsTyped spec codes → AreBits codes
 typed_bits spec codes plain typed = bits_from codes (λ v k.
     let p = plain_at spec.variables plain v (omega (arith, typed.one_each)) in
     let w : IsWithin (kind_domain spec.types p.0.kind) (code_of codes v) = subst (λ d. IsWithin d (code_of codes v)) (domain_at spec v p.0 p.1) (typed.within v (omega (arith, typed.one_each))) in
     boolean_domain spec p.0.kind (code_of codes v) p.2 w)
 
-bits_typed : (spec : Data) (codes : Codes) → list_all is_plain spec.variables ≡ true → length codes ≡ length spec.variables → AreBits codes → IsTyped spec codes
+pub bits_typed : (spec : Data) (codes : Codes) → list_all is_plain spec.variables ≡ true → length codes ≡ length spec.variables → AreBits codes → IsTyped spec codes
 bits_typed spec codes plain same bits = record {
     one_each = same;
     within = λ v k.
