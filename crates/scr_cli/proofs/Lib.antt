@@ -5,3 +5,4 @@ pub mod Judged
 pub mod Columns
 pub mod Steps
 pub mod Names
+pub mod Printed

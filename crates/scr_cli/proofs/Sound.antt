@@ -1,14 +1,13 @@
 -- The specification that the statements spell keeps the rules of a specification.
-use Rattle.std.proofs.Common.{◌≡◌, ℕ, ◌<◌, ◌≤◌, ◌==◌, cond, zero, suc, ℤ, pos, Bool, true, false, ◌&&◌, List, [], ◌∷◌, map, length, Option, Some, None, IsTrue, refl, sym, ap, subst, ◌∙◌, arith}
+use Rattle.std.proofs.Common.{◌≡◌, ℕ, ◌<◌, ◌≤◌, ◌==◌, cond, suc, ℤ, pos, Bool, true, false, ◌&&◌, List, [], ◌∷◌, map, length, Option, Some, None, refl, sym, ap, subst, ◌∙◌, arith}
 use Rattle.std.specs.Prelude.{nat_lt, nat_le, int_le, is_none, position, option_map, option_and_then}
 use Rattle.std.specs.List.{list_all}
-use Rattle.std.specs.Ordering.{int_eq}
 use Rattle.std.proofs.lemmas.List.Folds.{list_all-map}
 use Rattle.scr_spec.specs.Data.{Data}
 use Rattle.scr_spec.specs.Over.{is_cond_over, over_step, is_side_over}
-use Rattle.scr_spec.specs.Cells.{is_cell_over, is_row_over, is_table_over}
+use Rattle.scr_spec.specs.Cells.{is_cell_over}
 use Rattle.scr_spec.specs.Sound.{IsSound}
-use Rattle.scr_spec.specs.declared.cond.Cond.{Cond, fold-Cond, fold-roll-Cond}
+use Rattle.scr_spec.specs.declared.cond.Cond.{Cond, fold-roll-Cond}
 use Rattle.scr_spec.specs.declared.cond.Cond.TheVariants as c
 use Rattle.scr_spec.specs.declared.cond.Cond.TheOpen as layer
 use Rattle.scr_spec.specs.declared.cond.Expr.{Expr}
@@ -17,14 +16,13 @@ use Rattle.scr_spec.specs.declared.table.Cell.{Cell}
 use Rattle.scr_spec.specs.declared.table.Cell.TheVariants as cell
 use Rattle.scr_reader.specs.declared.draft.DraftOperand.{DraftOperand}
 use Rattle.scr_reader.specs.declared.draft.DraftOperand.TheVariants as o
-use Rattle.scr_reader.specs.declared.draft.DraftItem.{DraftItem}
 use Rattle.scr_reader.specs.declared.draft.DraftSide.{DraftSide}
 use Rattle.scr_reader.specs.declared.draft.DraftCell.{DraftCell}
 use Rattle.scr_reader.specs.declared.draft.DraftCell.TheVariants as draft_cell
-use Rattle.scr_reader.specs.declared.draft.DraftCond.{DraftCond, fold-DraftCond, fold-roll-DraftCond, ind-DraftCond}
+use Rattle.scr_reader.specs.declared.draft.DraftCond.{DraftCond, fold-roll-DraftCond, ind-DraftCond}
 use Rattle.scr_reader.specs.declared.draft.DraftCond.TheOpen as draft
 use Rattle.scr_reader.specs.declared.draft.DraftCond.TheFolds.{map-DraftCond}
-use Rattle.scr_cli.specs.Built.{is_named, is_monitored, single, atom_of, all_there, cond_step, cond_of, cell_of, cells_of, value_of, values_of, truth_value, with_init, without_init, declared_boolean, declared_kind, declared, variables_of, data_over, table_of, is_plain, is_boolean, IsSoundOver, are_built, dependent_place, tables_of, with_table, with_parts, with_tables, from_declarations, from_first, spec_of, behind, condition_head, row_cells, value_sides, is_closing}
+use Rattle.scr_cli.specs.Built.{is_named, is_monitored, single, atom_of, all_there, cond_step, cond_of, cell_of, cells_of, value_of, values_of, truth_value, with_init, without_init, declared_boolean, declared_kind, declared, variables_of, data_over, table_of, is_plain, is_boolean, IsSoundOver, dependent_place, tables_of, with_table, with_parts, with_tables, from_first, spec_of, behind, condition_head, row_cells, value_sides, is_closing}
 use Rattle.scr_cli.specs.Search.{is_judgeable}
 use Rattle.scr_spec.specs.declared.table.Table.{Table}
 use Rattle.std.proofs.lemmas.List.{length-map}
@@ -235,7 +233,7 @@ plain_bounds : (xs : List Variable) → list_all is_plain xs ≡ true → list_a
 plain_bounds [] h = refl
 plain_bounds (x ∷ xs) h =
     and_true _ _ (unbound (λ k. is_monitored_role x.role && is_integer_kind [] x.kind && int_le (pos 1) k && is_narrow k) x.bound
-        (and_right (is_boolean x.kind) (is_none x.bound) (and_left (is_plain x) (list_all is_plain xs) h)))
+    (and_right (is_boolean x.kind) (is_none x.bound) (and_left (is_plain x) (list_all is_plain xs) h)))
     (plain_bounds xs (and_right (is_plain x) (list_all is_plain xs) h))
 
 -- ---- the whole
@@ -290,9 +288,11 @@ judgeable_table name ss t cells sides = one (tables_of (variables_of ss) t cells
     one : (r : Option (List Table)) → IfMade (λ tables. length tables == 1) r → IfMade is_judgeable (option_map (data_over name (variables_of ss)) r)
     one r h = map_made (data_over name (variables_of ss)) (λ tables. length tables == 1) is_judgeable r
         (λ tables k. and_true _ _ (plain_variables ss) k) h
+
     by_test : (b : Bool) (r : Option (List Table)) → IfMade (λ tables. length tables == 1) r → IfMade (λ tables. length tables == 1) (cond b r None)
     by_test true r h = h
     by_test false r h = tt
+
     one_table : (variables : List Variable) (t : List ℕ) (cells : List DraftCell) (sides : List DraftSide) → IfMade (λ tables. length tables == 1) (tables_of variables t cells sides)
     one_table variables t cells sides = by_test _ _ (then_made _ _ (dependent_place variables t) (λ v. then_made _ _ (cells_of variables cells)
         (λ cs. map_made _ (λ es. true) (λ tables. length tables == 1) (values_of sides) (λ es k. refl) (always (values_of sides)))))

@@ -1,7 +1,6 @@
 -- Steps of the search over states, and of the list of goals.
-use Rattle.std.proofs.Common.{◌≡◌, inl, inr, ℕ, zero, suc, ◌+◌, ◌-◌, ◌<◌, ◌≤◌, ℤ, pos, Bool, true, false, not, ◌&&◌, cond, IsTrue, List, [], ◌∷◌, ◌++◌, length, take, map, Option, Some, None, refl, sym, ap, subst, ◌∙◌, append_assoc, add-zero, add_assoc, arith}
+use Rattle.std.proofs.Common.{◌≡◌, inl, inr, ℕ, zero, suc, ◌+◌, ◌-◌, ◌<◌, ◌≤◌, ℤ, pos, Bool, true, false, cond, List, [], ◌∷◌, ◌++◌, length, take, map, Option, Some, None, refl, sym, ap, ◌∙◌, append_assoc, add-zero, arith}
 use Rattle.std.specs.Prelude.{slice_set, flat_map, replicate}
-use Rattle.std.specs.Option.{option_or}
 use Rattle.std.specs.List.{All, list_all, range_with_len}
 use Rattle.std.proofs.lemmas.List.Elements.{All-cons, All-append}
 use Rattle.std.proofs.lemmas.List.{take_all, take-take, take-set, take_more_set, length-set, length-replicate, append-nil}
@@ -39,7 +38,8 @@ pub one_more : (f : ℕ → Goal) (a n j m : ℕ) (goals new initial : List Goal
     → new ≡ initial ++ map f (range_with_len a m)
 one_more f a n j m goals new initial p q r s = rw (p, q, s, map-range_with_len_more f a n j r, append_assoc) refl
 
-range_more : (a n : ℕ) → range_with_len a (suc n) ≡ range_with_len a n ++ (a + n) ∷ []
+-- one number more
+pub range_more : (a n : ℕ) → range_with_len a (suc n) ≡ range_with_len a n ++ (a + n) ∷ []
 range_more a zero = ap (λ x. x ∷ []) (sym (add-zero a))
 range_more a (suc n) =
     let same : (a + 1) + n ≡ a + suc n = omega arith in

@@ -96,7 +96,14 @@ fn set_truth(spec: &Spec, table: &Table, at: &mut State, v: usize, truth: bool)
 
 /// Looks for the least state that is against the goal and agrees with this one on the variables
 /// before `v`.
-fn find_least(spec: &Spec, table: &Table, columns: u32, goal: Goal, at: &mut State, v: usize) -> bool
+fn find_least(
+    spec: &Spec,
+    table: &Table,
+    columns: u32,
+    goal: Goal,
+    at: &mut State,
+    v: usize,
+) -> bool
     requires judged { IsJudged (data_of spec.now) table.now }
     requires typed { IsTyped (data_of spec.now) at.old.codes }
     requires all { columns ≡ column_count table.now }
@@ -162,7 +169,13 @@ fn false_state(alloc: Global, spec: &Spec, table: &Table) -> Result<State, NoMem
 }
 
 /// The first of the goals that a state is against, which this state then is.
-fn find_violated(spec: &Spec, table: &Table, columns: u32, goals: &[Goal], at: &mut State) -> Option<Goal>
+fn find_violated(
+    spec: &Spec,
+    table: &Table,
+    columns: u32,
+    goals: &[Goal],
+    at: &mut State,
+) -> Option<Goal>
     requires judged { IsJudged (data_of spec.now) table.now }
     requires typed { IsTyped (data_of spec.now) at.old.codes }
     requires all { columns ≡ column_count table.now }

@@ -1,4 +1,4 @@
-use Rattle.std.proofs.Common.{◌≡◌, true, false, ◌+◌, ◌-◌, ◌<◌, ◌≤◌, pos, [], ◌∷◌, ◌++◌, length, take, Option, Some, None, cond, sym, ap, subst, ◌∙◌, arith, rules}
+use Rattle.std.proofs.Common.{◌≡◌, ◌+◌, ◌-◌, ◌<◌, pos, [], ◌∷◌, ◌++◌, length, take, Some, None, cond, ap, subst, ◌∙◌, arith, rules}
 use Rattle.scr_spec.specs.Shown.{data_of}
 use Rattle.scr_cli.specs.Verdict.{violates}
 use Rattle.scr_cli.specs.Search.{least}
@@ -22,7 +22,7 @@ returns-then-find_least-clause-found t c =
     let below : c.args.v < n = omega (arith, c.requires.variable, c.len.ensures) in
     let test = violates (data_of c.args.spec.now) c.args.table.now c.args.goal in
     let found : least test m (take (c.args.v + 1) c.set_truth.new.at.codes) ≡ Some c.find_least.new.at.codes =
-      c.find_least.ensures.found ∙ ap (λ b. cond b (Some c.find_least.new.at.codes) None) c.if-find_least.true in
+    c.find_least.ensures.found ∙ ap (λ b. cond b (Some c.find_least.new.at.codes) None) c.if-find_least.true in
     found_first test (n - c.args.v) m (take c.args.v c.args.at.now.codes) c.find_least.new.at.codes (omega arith)
     (subst (λ p. least test m p ≡ Some c.find_least.new.at.codes) c.set_truth.ensures.prefix found)
 
@@ -42,11 +42,11 @@ returns-clause-found t c =
     let below : c.args.v < n = omega (arith, c.requires.variable, c.len.ensures) in
     let test = violates (data_of c.args.spec.now) c.args.table.now c.args.goal in
     let none : least test m (take (c.args.v + 1) c.set_truth.new.at.codes) ≡ None =
-      c.find_least.ensures.found ∙ ap (λ b. cond b (Some c.find_least.new.at.codes) None) c.if-find_least.false in
+    c.find_least.ensures.found ∙ ap (λ b. cond b (Some c.find_least.new.at.codes) None) c.if-find_least.false in
     let same : take c.args.v c.find_least.new.at.codes ≡ take c.args.v c.args.at.now.codes =
-      agree_before c.args.v c.find_least.new.at.codes c.set_truth.new.at.codes c.find_least.ensures.prefix ∙ c.set_truth.ensures.kept in
+    agree_before c.args.v c.find_least.new.at.codes c.set_truth.new.at.codes c.find_least.ensures.prefix ∙ c.set_truth.ensures.kept in
     let prefix : take (c.args.v + 1) c.set_truth-2.new.at.codes ≡ take c.args.v c.args.at.now.codes ++ pos 1 ∷ [] =
-      c.set_truth-2.ensures.prefix ∙ ap (λ p. p ++ pos 1 ∷ []) same in
+    c.set_truth-2.ensures.prefix ∙ ap (λ p. p ++ pos 1 ∷ []) same in
     found_second test (n - c.args.v) m (take c.args.v c.args.at.now.codes) _ (omega arith)
     (subst (λ p. least test m p ≡ None) c.set_truth.ensures.prefix none)
     (subst (λ p. least test m p ≡ cond c.find_least-2.result (Some c.find_least-2.new.at.codes) None) prefix c.find_least-2.ensures.found)
