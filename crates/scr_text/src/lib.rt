@@ -1,10 +1,22 @@
 //! Lines of a text, their tokens, and decimal numbers.
 #![tactic(auto)]
 
+mod fault;
+mod laws;
+mod lex;
+mod line;
 mod memory;
 mod name;
+mod number;
+mod piece;
+mod spelling;
 mod word;
 
+pub use fault::LexFault;
+pub use laws::one_lexing;
+pub use lex::lex_line;
+pub use line::{Cut, cut_line, next_line};
 pub use memory::NoMemory;
 pub use name::Name;
+pub use number::push_number;
 pub use word::{Keyword, Relation, Sign, Token, Word};

@@ -1,0 +1,4 @@
+pub mod Conditions
+pub mod Sound
+pub mod Least
+pub mod Judged

@@ -1,0 +1,8 @@
+//! The top call of the program.
+#![tactic(auto)]
+
+mod built;
+mod status;
+mod verdict;
+
+pub use status::Status;

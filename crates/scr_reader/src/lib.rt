@@ -1,0 +1,12 @@
+//! Reads the text of a specification: from bytes to statements with their lines.
+#![tactic(auto)]
+
+mod draft;
+mod place;
+mod step;
+
+pub use draft::{
+    Draft, DraftCell, DraftChange, DraftCond, DraftEvent, DraftItem, DraftKind, DraftOperand,
+    DraftPrim, DraftSide, DraftValue, Numbered, Statement,
+};
+pub use place::{Counts, Place, Position, TextFault, TextKind};

@@ -1,0 +1,36 @@
+-- The lines of a text.
+use Rattle.std.specs.Prelude.{◌≡◌, ℕ, ◌-◌, ◌<◌, ◌≤◌, ◌⊎◌, not, if◌then◌else◌, ◌==◌, List, [], ◌∷◌, length, slice_index, slice_range, take, drop, map}
+use Rattle.std.specs.List.{prefix_len}
+
+-- a byte in front of the first piece
+abbrev pub in_front : ℕ → List (List ℕ) → List (List ℕ)
+in_front b [] = (b ∷ []) ∷ []
+in_front b (piece ∷ pieces) = (b ∷ piece) ∷ pieces
+
+-- the pieces between line feeds, without an empty last one
+abbrev pub pieces : List ℕ → List (List ℕ)
+pieces [] = []
+pieces (b ∷ bytes) = if b == 10 then [] ∷ pieces bytes else in_front b (pieces bytes)
+
+-- the bytes without a carriage return at their end
+abbrev pub without_return : List ℕ → List ℕ
+without_return bytes = if slice_index bytes (length bytes - 1) == 13 then take (length bytes - 1) bytes else bytes
+
+-- the lines, without their ends
+abbrev pub lines : List ℕ → List (List ℕ)
+lines text = map without_return (pieces text)
+
+-- how many bytes stand before the first line feed
+abbrev pub feed_at : List ℕ → ℕ
+feed_at text = prefix_len (λ b. not (b == 10)) text
+
+-- this place is the end of a text, or stands directly behind a line feed
+abbrev pub IsBehindFeed : List ℕ → ℕ → Type 0
+IsBehindFeed text place = (place ≡ length text) ⊎ (slice_index text (place - 1) ≡ 10)
+
+-- the line of a text that begins at `from` ends at `stop`, and the next one begins at `next`
+pub record IsCut (text : List ℕ) (from stop next : ℕ) : Type 0 where
+  pub ordered : (from ≤ stop) × (stop ≤ next) × (next ≤ length text)
+  pub moves : from < next
+  pub line : lines (drop from text) ≡ slice_range text from stop ∷ lines (drop next text)
+  pub behind : IsBehindFeed text next
