@@ -1,8 +1,13 @@
 //! Reads the text of a specification: from bytes to statements with their lines.
 #![tactic(auto)]
 
+mod cell;
+mod cond;
 mod draft;
+mod event;
+mod fault;
 mod place;
+mod side;
 mod step;
 
 pub use draft::{
