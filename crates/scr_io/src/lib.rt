@@ -1,0 +1,13 @@
+//! The outside of the program: files by name, and a place for bytes.
+#![tactic(auto)]
+
+mod fault_plan;
+mod memory_shelf;
+mod memory_sink;
+mod outside;
+mod real;
+
+pub use memory_shelf::{MemoryFile, MemoryShelf};
+pub use memory_sink::MemorySink;
+pub use outside::{Failed, Shelf, Sink};
+pub use real::{FileShelf, OutSink};
