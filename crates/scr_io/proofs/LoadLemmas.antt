@@ -1,19 +1,8 @@
 -- What was taken, and what was left before.
 use Rattle.std.proofs.Common.{◌≡◌, ◌+◌, ◌<◌, ◌≤◌, ℕ, List, ◌++◌, length, take, Option, None, Some, IfSome, sym, arith, length-append}
 use Rattle.std.proofs.lemmas.List.{take-append-le, length-take-le}
-use Rattle.std.proofs.KnownBytes.{Consumes-trans}
 use Rattle.std.specs.Io.KnownBytes.{Consumes}
-use Rattle.scr_io.specs.Outside.{TakesAtMost}
 use Rattle.scr_io.specs.Load.{IsCut}
-
--- bytes that were taken, and then others
-pub TakesAtMost-more : (most : ℕ) (a b c : Option (List ℕ)) (bs cs : List ℕ) → Consumes a b bs → Consumes b c cs → length bs + length cs ≤ most
-    → TakesAtMost most a c
-TakesAtMost-more most a b c bs cs first second few = record {
-  bytes = bs ++ cs;
-  few = omega (arith, length-append bs cs);
-  taken = Consumes-trans a b c bs cs first second;
-}
 
 -- the first `limit` of more bytes that were taken
 pub IsCut-Consumes : (limit : ℕ) (before after : Option (List ℕ)) (bytes : List ℕ) → limit < length bytes → Consumes before after bytes
@@ -28,6 +17,7 @@ IsCut-Consumes limit before after bytes lt took = record {
     more_of None after took = tt
     more_of (Some left) None took = absurd took
     more_of (Some left) (Some rest) took = rw took (omega (arith, length-append bytes rest))
+
     first_of : (before after : Option (List ℕ)) → Consumes before after bytes → IfSome before (λ all. take limit bytes ≡ take limit all)
     first_of None after took = tt
     first_of (Some left) None took = absurd took

@@ -2,6 +2,8 @@
 #![tactic(auto)]
 
 mod fault_plan;
+mod first_line;
+mod lines;
 mod memory_shelf;
 mod memory_sink;
 mod outside;
@@ -9,6 +11,7 @@ mod reading;
 mod real;
 mod whole;
 
+pub use lines::{Lines, Piece};
 pub use memory_shelf::{MemoryFile, MemoryShelf};
 pub use memory_sink::MemorySink;
 pub use outside::{Failed, Shelf, Sink};
