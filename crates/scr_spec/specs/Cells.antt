@@ -1,5 +1,5 @@
 -- When a cell of a table holds (TOSEM 1996).
-use Rattle.std.specs.Prelude.{ℕ, ℤ, unsigned_abs, Bool, true, false, ◌&&◌, nat_lt, nat_le, length, List, Option, Some, None, slice_get}
+use Rattle.std.specs.Prelude.{ℕ, ℤ, Bool, true, false, ◌&&◌, nat_lt, nat_le, length, List, Option, Some, None, slice_get}
 use Rattle.std.specs.Option.{option_map_or}
 use Rattle.std.specs.Ordering.{int_eq}
 use Rattle.std.specs.List.{list_all, list_any}
@@ -10,6 +10,7 @@ use Rattle.scr_spec.specs.declared.table.Row.{Row}
 use Rattle.scr_spec.specs.declared.table.Heading.{Heading}
 use Rattle.scr_spec.specs.declared.table.Heading.TheVariants.{Condition, Event as Events, Modes}
 use Rattle.scr_spec.specs.declared.table.Table.{Table}
+use Rattle.scr_spec.specs.Types.{is_narrow}
 use Rattle.scr_spec.specs.Meaning.{Codes, code_of, is_true}
 use Rattle.scr_spec.specs.Over.{is_cond_over, is_side_over}
 use Rattle.scr_spec.specs.Events.{event_true, is_event_over}
@@ -48,20 +49,29 @@ abbrev pub is_cell_over : Data → Cell → Bool
 is_cell_over spec (Cond c) = is_cond_over spec c
 is_cell_over spec (Event e) = is_event_over spec e
 
+-- the class, if there is one, is a variable of the specification
 abbrev pub is_class_over : Data → Option ℕ → Bool
 is_class_over spec None = true
 is_class_over spec (Some v) = nat_lt v (length spec.variables)
 
-abbrev pub is_narrow : ℤ → Bool
-is_narrow z = nat_le (unsigned_abs z) 1000000
-
+-- each cell is one over the specification, and each mode and target is narrow
 abbrev pub is_row_over : Data → Row → Bool
 is_row_over spec row = list_all (is_cell_over spec) row.cells && list_all is_narrow row.modes && list_all is_narrow row.targets
 
--- at most 64 rows, with at most 16 cells each
+-- a ROW line has at most 16 cells, and the rows of a mode table come from at most 64 FROM lines
+abbrev pub greatest_width : Heading → ℕ
+greatest_width Condition = 16
+greatest_width Events = 16
+greatest_width Modes = 64
+
+-- at most 64 rows, of at most that many cells
 abbrev pub is_small : Table → Bool
-is_small table = nat_le (length table.rows) 64 && list_all (λ r. nat_le (length r.cells) 16) table.rows
+is_small table = nat_le (length table.rows) 64 && list_all (λ r. nat_le (length r.cells) (greatest_width table.heading)) table.rows
 
 -- each part of the table is one over the specification
 abbrev pub is_table_over : Data → Table → Bool
 is_table_over spec table = is_class_over spec table.class && list_all (is_row_over spec) table.rows && nat_lt table.variable (length spec.variables) && list_all (is_side_over spec) table.values && is_small table
+
+-- the table has that row, and the row that column
+abbrev pub has_cell : Table → ℕ → ℕ → Bool
+has_cell table row column = option_map_or (λ r. nat_lt column (length r.cells)) (slice_get table.rows row) false

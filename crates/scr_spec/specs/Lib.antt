@@ -1,8 +1,10 @@
 pub mod Data
 pub mod Shown
 pub mod Meaning
+pub mod Types
 pub mod Domains
 pub mod Over
 pub mod Events
 pub mod Cells
+pub mod Names
 pub mod Sound

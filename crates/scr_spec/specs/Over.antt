@@ -1,14 +1,18 @@
 -- The sides and conditions that are over a specification, and the bound of a side.
-use Rattle.std.specs.Prelude.{ℕ, ◌*◌, max, unsigned_abs, Bool, true, ◌&&◌, nat_lt, nat_le, length, sum_by}
+use Rattle.std.specs.Prelude.{ℕ, ◌*◌, max, ℤ, pos, unsigned_abs, int_lt, int_le, Bool, true, ◌&&◌, nat_lt, nat_le, List, [], length, sum_by, slice_get}
+use Rattle.std.specs.Option.{option_map_or}
 use Rattle.std.specs.List.{list_all}
 use Rattle.scr_spec.specs.Data.{Data}
 use Rattle.scr_spec.specs.declared.spec.Domain.{Domain}
+use Rattle.scr_spec.specs.declared.cond.Owner.{Owner}
+use Rattle.scr_spec.specs.declared.cond.Owner.TheVariants.{Named, Class}
 use Rattle.scr_spec.specs.declared.cond.Operand.{Operand}
 use Rattle.scr_spec.specs.declared.cond.Operand.TheVariants.{One, Truth as Flag, Constant, Label, Variable as Read, Primed}
 use Rattle.scr_spec.specs.declared.cond.Item.{Item}
 use Rattle.scr_spec.specs.declared.cond.Expr.{Expr}
 use Rattle.scr_spec.specs.declared.cond.Cond.{Cond, fold-Cond}
 use Rattle.scr_spec.specs.declared.cond.Cond.TheOpen.{Cond-F, Truth, Holds, Compare, Not, And, Or}
+use Rattle.scr_spec.specs.Types.{shape_labels, kind_modes}
 use Rattle.scr_spec.specs.Domains.{domain_of}
 use Rattle.scr_spec.specs.Meaning.{constant_value}
 
@@ -29,6 +33,7 @@ operand_bound spec (Label owner code) = unsigned_abs code
 operand_bound spec (Read v) = variable_bound spec v
 operand_bound spec (Primed v) = variable_bound spec v
 
+-- the absolute factor times the bound of the operand
 abbrev pub item_bound : Data → Item → ℕ
 item_bound spec item = unsigned_abs item.factor * operand_bound spec item.operand
 
@@ -36,12 +41,21 @@ item_bound spec item = unsigned_abs item.factor * operand_bound spec item.operan
 abbrev pub side_bound : Data → Expr → ℕ
 side_bound spec e = sum_by (item_bound spec) e.items
 
--- each variable and constant is one of the specification
+-- the names among which a label stands
+abbrev pub labels_of : Data → Owner → List (List ℕ)
+labels_of spec (Named k) = option_map_or (λ t. shape_labels t.shape) (slice_get spec.types k) []
+labels_of spec (Class v) = option_map_or (λ x. kind_modes x.kind) (slice_get spec.variables v) []
+
+-- the code is a place in the list
+abbrev pub is_place : List (List ℕ) → ℤ → Bool
+is_place names code = int_le (pos 0) code && int_lt code (pos (length names))
+
+-- each variable, constant and label is one of the specification
 abbrev pub is_operand_over : Data → Operand → Bool
 is_operand_over spec One = true
 is_operand_over spec (Flag b) = true
 is_operand_over spec (Constant k) = nat_lt k (length spec.constants)
-is_operand_over spec (Label owner code) = true
+is_operand_over spec (Label owner code) = is_place (labels_of spec owner) code
 is_operand_over spec (Read v) = nat_lt v (length spec.variables)
 is_operand_over spec (Primed v) = nat_lt v (length spec.variables)
 

@@ -1,4 +1,8 @@
 //! A specification.
+ghost use Rattle.std.specs.Prelude.{◌≡◌, IsTrue};
+ghost use Rattle.std.specs.List.{list_all};
+ghost use Rattle.scr_spec.specs.Types.{is_list_sound, is_shape_sound, is_type_sound, is_kind_sound};
+ghost use Rattle.scr_spec.specs.Domains.{list_domain, shape_domain, kind_domain};
 ghost use Rattle.scr_spec.specs.Sound.{IsSound};
 
 use crate::table::Table;
@@ -69,4 +73,64 @@ pub struct Spec {
     pub variables: Items<Variable>,
     pub tables: Items<Table>,
     pub ghost sound: { IsSound (record { name = name; types = types; constants = constants; variables = variables; tables = tables }) },
+}
+
+impl Domain {
+    /// The places in a list of names.
+    fn of_list(names: &[Name]) -> Domain
+        requires { IsTrue (is_list_sound names.now) }
+        ensures { result ≡ list_domain names.now }
+    {
+        Domain {
+            lo: 0,
+            hi: names.len() as i64 - 1,
+        }
+    }
+
+    fn of_shape(shape: &Shape) -> Domain
+        requires { IsTrue (is_shape_sound shape.now) }
+        ensures { result ≡ shape_domain shape.now }
+    {
+        match shape {
+            Shape::Range(domain) => *domain,
+            Shape::Labels(names) => Domain::of_list(names.as_slice()),
+        }
+    }
+
+    fn of_kind(types: &[TypeDef], kind: &Kind) -> Domain
+        requires types { IsTrue (list_all is_type_sound types.now) }
+        requires kind { IsTrue (is_kind_sound types.now kind.now) }
+        ensures { result ≡ kind_domain types.now kind.now }
+    {
+        match kind {
+            Kind::Boolean => Domain { lo: 0, hi: 1 },
+            Kind::Named(k) => Domain::of_shape(&types[*k].shape),
+            Kind::Modes(names) => Domain::of_list(names.as_slice()),
+        }
+    }
+}
+
+impl Spec {
+    ghost use Rattle.std.specs.Prelude.{◌≡◌, ◌<◌, length};
+    ghost use Rattle.scr_spec.specs.Domains.{domain_of};
+    ghost use Rattle.scr_spec.specs.Names.{variable_named};
+    ghost use Rattle.scr_spec.specs.Shown.{data_of};
+
+    /// The least and the greatest code of a variable.
+    pub fn domain(&self, v: usize) -> Domain
+        requires { v < length self.now.variables }
+        ensures { result ≡ domain_of (data_of self.now) v }
+    {
+        Domain::of_kind(self.types.as_slice(), &self.variables.as_slice()[v].kind)
+    }
+
+    /// The number of the variable of that name.
+    pub fn find(&self, name: &[u8]) -> Option<usize>
+        ensures { result ≡ variable_named (data_of self.now) name.now }
+    {
+        self.variables
+            .as_slice()
+            .iter()
+            .position(|x| x.name.as_slice() == name)
+    }
 }

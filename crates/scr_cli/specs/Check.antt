@@ -1,0 +1,36 @@
+-- What `check` answers.
+use Rattle.std.specs.Prelude.{◌≡◌, ℕ, List, [], ◌∷◌, Option, None, Some, codes}
+use Rattle.scr_spec.specs.Data.{Data}
+use Rattle.scr_spec.specs.declared.table.Table.{Table}
+use Rattle.scr_cli.specs.declared.status.Status.{Status}
+use Rattle.scr_cli.specs.declared.status.Status.TheVariants.{SpecRefused, ReadFault}
+use Rattle.scr_cli.specs.declared.verdict.Verdict.{Verdict}
+use Rattle.scr_cli.specs.Built.{Spells, Unbuilt}
+use Rattle.scr_cli.specs.Verdict.{IsVerdict}
+use Rattle.scr_cli.specs.Report.{report_text, verdict_status}
+use Rattle.scr_cli.specs.Ends.{Answer}
+
+abbrev pub unbuilt_text : List ℕ
+unbuilt_text = codes "line 0: unbuilt\n"
+
+-- the report on the one table of the specification, by the table's verdict
+pub record IsReport (spec : Data) (bytes : List ℕ) (status : Status) : Type 0 where
+  pub table : Table
+  pub verdict : Verdict
+  pub only : spec.tables ≡ table ∷ []
+  pub judged : IsVerdict spec table verdict
+  pub text : bytes ≡ report_text spec table verdict
+  pub ends : status ≡ verdict_status verdict
+
+-- of a text: the report on the specification that it spells, or the one line where it is not built
+pub data ChecksText : List ℕ → List ℕ → Status → Type 0 where
+  reports : {text bytes : List ℕ} {status : Status} (spec : Data) → Spells text spec → IsReport spec bytes status → ChecksText text bytes status
+  unbuilt : {text : List ℕ} → Unbuilt text → ChecksText text unbuilt_text SpecRefused
+
+-- of a file, if it is there
+abbrev pub Checks : Option (List ℕ) → List ℕ → Status → Type 0
+Checks None bytes status = (bytes ≡ []) × (status ≡ ReadFault)
+Checks (Some text) bytes status = ChecksText text bytes status
+
+abbrev pub CheckAnswers : List ℕ → Answer
+CheckAnswers name files = Checks (files name)
