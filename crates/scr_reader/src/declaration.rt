@@ -21,7 +21,8 @@ use std::alloc::Global;
 
 #[tactic(auto, using(crate::proofs::FormsOnce::int_once))]
 fn read_last_int(tokens: &[Token]) -> Option<i64>
-    ensures { MatchOption result ((v : ℤ) → Int (words tokens.now) v [] → ⊥) (λ v. Int (words tokens.now) v []) }
+    ensures { MatchOption result ((v : ℤ) → Int (words tokens.now) v [] → ⊥)
+        (λ v. Int (words tokens.now) v []) }
 {
     let (value, rest) = read_int(tokens)?;
     if is_end(rest) { Some(value) } else { None }
@@ -29,7 +30,8 @@ fn read_last_int(tokens: &[Token]) -> Option<i64>
 
 #[tactic(auto, using(crate::proofs::FormsOnce::int_once))]
 fn read_bounds(tokens: &[Token]) -> Option<(i64, i64)>
-    ensures { MatchOption result ((lo hi : ℤ) → Bounds (words tokens.now) lo hi → ⊥) (λ x. Bounds (words tokens.now) x.0 x.1) }
+    ensures { MatchOption result ((lo hi : ℤ) → Bounds (words tokens.now) lo hi → ⊥)
+        (λ x. Bounds (words tokens.now) x.0 x.1) }
 {
     let (low, rest) = read_int(tokens)?;
     let rest = past_sign(rest, Sign::Dots)?;
@@ -40,7 +42,8 @@ fn read_bounds(tokens: &[Token]) -> Option<(i64, i64)>
 #[tactic(auto, using(crate::proofs::FormsOnce::names_once))]
 fn read_braced(alloc: Global, tokens: &[Token]) -> Result<(Items<Name>, &[Token]), FormFault>
     ensures found { IfOk result (λ x. Braced (words tokens.now) x.0 (words x.1.now)) }
-    ensures refused { result ≡ Err FormFault.Refused → (names : List (List ℕ)) (rest : List Word) → Braced (words tokens.now) names rest → ⊥ }
+    ensures refused { result ≡ Err FormFault.Refused
+        → (names : List (List ℕ)) (rest : List Word) → Braced (words tokens.now) names rest → ⊥ }
 {
     let Some(rest) = past_sign(tokens, Sign::OpenBrace) else {
         return Err(FormFault::Refused);
@@ -55,7 +58,8 @@ fn read_braced(alloc: Global, tokens: &[Token]) -> Result<(Items<Name>, &[Token]
 #[tactic(auto, using(crate::proofs::FormsOnce::braced_once))]
 fn read_labels(alloc: Global, tokens: &[Token]) -> Result<Items<Name>, FormFault>
     ensures found { IfOk result (λ names. Braced (words tokens.now) names []) }
-    ensures refused { result ≡ Err FormFault.Refused → (names : List (List ℕ)) → Braced (words tokens.now) names [] → ⊥ }
+    ensures refused { result ≡ Err FormFault.Refused
+        → (names : List (List ℕ)) → Braced (words tokens.now) names [] → ⊥ }
 {
     let (names, rest) = read_braced(alloc, tokens)?;
     if is_end(rest) {
@@ -68,7 +72,8 @@ fn read_labels(alloc: Global, tokens: &[Token]) -> Result<Items<Name>, FormFault
 /// `n = int .. int` or `n = { n {, n} }`
 pub(crate) fn type_rest(alloc: Global, tokens: &[Token]) -> Result<Statement, FormFault>
     ensures found { IfOk result (λ statement. TypeRest (words tokens.now) statement) }
-    ensures refused { result ≡ Err FormFault.Refused → (statement : Statement) → TypeRest (words tokens.now) statement → ⊥ }
+    ensures refused { result ≡ Err FormFault.Refused
+        → (statement : Statement) → TypeRest (words tokens.now) statement → ⊥ }
 {
     let Some((name, rest)) = take_name_before(tokens, Sign::Equal) else {
         return Err(FormFault::Refused);
@@ -93,7 +98,8 @@ pub(crate) fn const_rest(tokens: &[Token]) -> Option<(&Name, i64)>
 #[tactic(auto, using(crate::proofs::FormsOnce::value_once))]
 fn read_initial(alloc: Global, tokens: &[Token]) -> Result<DraftValue, FormFault>
     ensures found { IfOk result (λ init. Initial (words tokens.now) init) }
-    ensures refused { result ≡ Err FormFault.Refused → (init : DraftValue) → Initial (words tokens.now) init → ⊥ }
+    ensures refused { result ≡ Err FormFault.Refused
+        → (init : DraftValue) → Initial (words tokens.now) init → ⊥ }
 {
     let Some(rest) = past_keyword(tokens, Keyword::Init) else {
         return Err(FormFault::Refused);
@@ -109,7 +115,8 @@ fn read_initial(alloc: Global, tokens: &[Token]) -> Result<DraftValue, FormFault
 #[tactic(auto, using(crate::proofs::FormsOnce::kind_once))]
 fn read_typed(alloc: Global, tokens: &[Token]) -> Result<(DraftKind, Option<DraftValue>), FormFault>
     ensures found { IfOk result (λ x. Typed (words tokens.now) x.0 x.1) }
-    ensures refused { result ≡ Err FormFault.Refused → (kind : DraftKind) (init : Option DraftValue) → Typed (words tokens.now) kind init → ⊥ }
+    ensures refused { result ≡ Err FormFault.Refused
+        → (kind : DraftKind) (init : Option DraftValue) → Typed (words tokens.now) kind init → ⊥ }
 {
     let (kind, rest) = read_kind(alloc, tokens)?;
     if is_end(rest) {
@@ -125,7 +132,9 @@ pub(crate) fn variable_rest(
     tokens: &[Token],
 ) -> Result<(Name, DraftKind, Option<DraftValue>), FormFault>
     ensures found { IfOk result (λ x. VariableRest (words tokens.now) x.0 x.1 x.2) }
-    ensures refused { result ≡ Err FormFault.Refused → (name : List ℕ) (kind : DraftKind) (init : Option DraftValue) → VariableRest (words tokens.now) name kind init → ⊥ }
+    ensures refused { result ≡ Err FormFault.Refused
+        → (name : List ℕ) (kind : DraftKind) (init : Option DraftValue)
+        → VariableRest (words tokens.now) name kind init → ⊥ }
 {
     let Some((name, rest)) = take_name_before(tokens, Sign::Colon) else {
         return Err(FormFault::Refused);
@@ -141,7 +150,9 @@ pub(crate) fn class_rest(
     tokens: &[Token],
 ) -> Result<(Name, Items<Name>, Name), FormFault>
     ensures found { IfOk result (λ x. ClassRest (words tokens.now) x.0 x.1 x.2) }
-    ensures refused { result ≡ Err FormFault.Refused → (name first : List ℕ) (modes : List (List ℕ)) → ClassRest (words tokens.now) name modes first → ⊥ }
+    ensures refused { result ≡ Err FormFault.Refused
+        → (name first : List ℕ) (modes : List (List ℕ))
+        → ClassRest (words tokens.now) name modes first → ⊥ }
 {
     let Some((name, rest)) = take_name_before(tokens, Sign::Equal) else {
         return Err(FormFault::Refused);
@@ -155,8 +166,12 @@ pub(crate) fn class_rest(
 
 /// `n STEP number`
 pub(crate) fn nat_rest(tokens: &[Token]) -> Option<(&Name, i64)>
-    ensures { MatchOption result ((name : List ℕ) (n : ℤ) → IsNatural n → words tokens.now ≡ Word.Name name ∷ Word.Reserved Keyword.Step ∷ Word.Number n ∷ [] → ⊥)
-        (λ x. IsNatural x.1 × (words tokens.now ≡ Word.Name x.0.now ∷ Word.Reserved Keyword.Step ∷ Word.Number x.1 ∷ [])) }
+    ensures { MatchOption result
+        ((name : List ℕ) (n : ℤ) → IsNatural n
+        → words tokens.now ≡ Word.Name name ∷ Word.Reserved Keyword.Step ∷ Word.Number n ∷ [] → ⊥)
+        (λ x. IsNatural x.1
+        × (words tokens.now
+        ≡ Word.Name x.0.now ∷ Word.Reserved Keyword.Step ∷ Word.Number x.1 ∷ [])) }
 {
     let (name, rest) = take_name(tokens)?;
     let rest = past_keyword(rest, Keyword::Step)?;

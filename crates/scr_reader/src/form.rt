@@ -22,8 +22,10 @@ fn read_specification(
     place: Place,
     tokens: &[Token],
 ) -> Result<(Statement, Place), FormFault>
-    ensures found { IfOk result (λ x. Form place (Word.Reserved Keyword.Specification ∷ words tokens.now) x.0 x.1) }
-    ensures refused { result ≡ Err FormFault.Refused → NoForm place (Word.Reserved Keyword.Specification ∷ words tokens.now) }
+    ensures found { IfOk result
+        (λ x. Form place (Word.Reserved Keyword.Specification ∷ words tokens.now) x.0 x.1) }
+    ensures refused { result ≡ Err FormFault.Refused
+        → NoForm place (Word.Reserved Keyword.Specification ∷ words tokens.now) }
 {
     match (place, lone_name(tokens)) {
         (Place::Start, Some(name)) => Ok((
@@ -35,8 +37,10 @@ fn read_specification(
 }
 
 fn read_type(alloc: Global, place: Place, tokens: &[Token]) -> Result<(Statement, Place), FormFault>
-    ensures found { IfOk result (λ x. Form place (Word.Reserved Keyword.TypeWord ∷ words tokens.now) x.0 x.1) }
-    ensures refused { result ≡ Err FormFault.Refused → NoForm place (Word.Reserved Keyword.TypeWord ∷ words tokens.now) }
+    ensures found { IfOk result
+        (λ x. Form place (Word.Reserved Keyword.TypeWord ∷ words tokens.now) x.0 x.1) }
+    ensures refused { result ≡ Err FormFault.Refused
+        → NoForm place (Word.Reserved Keyword.TypeWord ∷ words tokens.now) }
 {
     match place {
         Place::Declarations => Ok((type_rest(alloc, tokens)?, place)),
@@ -49,8 +53,10 @@ fn read_const(
     place: Place,
     tokens: &[Token],
 ) -> Result<(Statement, Place), FormFault>
-    ensures found { IfOk result (λ x. Form place (Word.Reserved Keyword.Const ∷ words tokens.now) x.0 x.1) }
-    ensures refused { result ≡ Err FormFault.Refused → NoForm place (Word.Reserved Keyword.Const ∷ words tokens.now) }
+    ensures found { IfOk result
+        (λ x. Form place (Word.Reserved Keyword.Const ∷ words tokens.now) x.0 x.1) }
+    ensures refused { result ≡ Err FormFault.Refused
+        → NoForm place (Word.Reserved Keyword.Const ∷ words tokens.now) }
 {
     match (place, const_rest(tokens)) {
         (Place::Declarations, Some((name, value))) => Ok((
@@ -66,8 +72,10 @@ fn read_monitored(
     place: Place,
     tokens: &[Token],
 ) -> Result<(Statement, Place), FormFault>
-    ensures found { IfOk result (λ x. Form place (Word.Reserved Keyword.Monitored ∷ words tokens.now) x.0 x.1) }
-    ensures refused { result ≡ Err FormFault.Refused → NoForm place (Word.Reserved Keyword.Monitored ∷ words tokens.now) }
+    ensures found { IfOk result
+        (λ x. Form place (Word.Reserved Keyword.Monitored ∷ words tokens.now) x.0 x.1) }
+    ensures refused { result ≡ Err FormFault.Refused
+        → NoForm place (Word.Reserved Keyword.Monitored ∷ words tokens.now) }
 {
     match place {
         Place::Declarations => {
@@ -89,8 +97,10 @@ fn read_class(
     place: Place,
     tokens: &[Token],
 ) -> Result<(Statement, Place), FormFault>
-    ensures found { IfOk result (λ x. Form place (Word.Reserved Keyword.ModeClass ∷ words tokens.now) x.0 x.1) }
-    ensures refused { result ≡ Err FormFault.Refused → NoForm place (Word.Reserved Keyword.ModeClass ∷ words tokens.now) }
+    ensures found { IfOk result
+        (λ x. Form place (Word.Reserved Keyword.ModeClass ∷ words tokens.now) x.0 x.1) }
+    ensures refused { result ≡ Err FormFault.Refused
+        → NoForm place (Word.Reserved Keyword.ModeClass ∷ words tokens.now) }
 {
     match place {
         Place::Declarations => {
@@ -102,8 +112,10 @@ fn read_class(
 }
 
 fn read_term(alloc: Global, place: Place, tokens: &[Token]) -> Result<(Statement, Place), FormFault>
-    ensures found { IfOk result (λ x. Form place (Word.Reserved Keyword.Term ∷ words tokens.now) x.0 x.1) }
-    ensures refused { result ≡ Err FormFault.Refused → NoForm place (Word.Reserved Keyword.Term ∷ words tokens.now) }
+    ensures found { IfOk result
+        (λ x. Form place (Word.Reserved Keyword.Term ∷ words tokens.now) x.0 x.1) }
+    ensures refused { result ≡ Err FormFault.Refused
+        → NoForm place (Word.Reserved Keyword.Term ∷ words tokens.now) }
 {
     match place {
         Place::Declarations => {
@@ -119,8 +131,10 @@ fn read_controlled(
     place: Place,
     tokens: &[Token],
 ) -> Result<(Statement, Place), FormFault>
-    ensures found { IfOk result (λ x. Form place (Word.Reserved Keyword.Controlled ∷ words tokens.now) x.0 x.1) }
-    ensures refused { result ≡ Err FormFault.Refused → NoForm place (Word.Reserved Keyword.Controlled ∷ words tokens.now) }
+    ensures found { IfOk result
+        (λ x. Form place (Word.Reserved Keyword.Controlled ∷ words tokens.now) x.0 x.1) }
+    ensures refused { result ≡ Err FormFault.Refused
+        → NoForm place (Word.Reserved Keyword.Controlled ∷ words tokens.now) }
 {
     match place {
         Place::Declarations => {
@@ -135,8 +149,10 @@ fn read_controlled(
 }
 
 fn read_nat(alloc: Global, place: Place, tokens: &[Token]) -> Result<(Statement, Place), FormFault>
-    ensures found { IfOk result (λ x. Form place (Word.Reserved Keyword.Nat ∷ words tokens.now) x.0 x.1) }
-    ensures refused { result ≡ Err FormFault.Refused → NoForm place (Word.Reserved Keyword.Nat ∷ words tokens.now) }
+    ensures found { IfOk result
+        (λ x. Form place (Word.Reserved Keyword.Nat ∷ words tokens.now) x.0 x.1) }
+    ensures refused { result ≡ Err FormFault.Refused
+        → NoForm place (Word.Reserved Keyword.Nat ∷ words tokens.now) }
 {
     match (place, nat_rest(tokens)) {
         (Place::Declarations, Some((name, step))) => Ok((
@@ -158,8 +174,10 @@ fn read_condition_head(
     place: Place,
     tokens: &[Token],
 ) -> Result<(Statement, Place), FormFault>
-    ensures found { IfOk result (λ x. Form place (Word.Reserved Keyword.Condition ∷ words tokens.now) x.0 x.1) }
-    ensures refused { result ≡ Err FormFault.Refused → NoForm place (Word.Reserved Keyword.Condition ∷ words tokens.now) }
+    ensures found { IfOk result
+        (λ x. Form place (Word.Reserved Keyword.Condition ∷ words tokens.now) x.0 x.1) }
+    ensures refused { result ≡ Err FormFault.Refused
+        → NoForm place (Word.Reserved Keyword.Condition ∷ words tokens.now) }
 {
     if !is_between(place) {
         return Err(FormFault::Refused);
@@ -176,8 +194,10 @@ fn read_event_head(
     place: Place,
     tokens: &[Token],
 ) -> Result<(Statement, Place), FormFault>
-    ensures found { IfOk result (λ x. Form place (Word.Reserved Keyword.Event ∷ words tokens.now) x.0 x.1) }
-    ensures refused { result ≡ Err FormFault.Refused → NoForm place (Word.Reserved Keyword.Event ∷ words tokens.now) }
+    ensures found { IfOk result
+        (λ x. Form place (Word.Reserved Keyword.Event ∷ words tokens.now) x.0 x.1) }
+    ensures refused { result ≡ Err FormFault.Refused
+        → NoForm place (Word.Reserved Keyword.Event ∷ words tokens.now) }
 {
     if !is_between(place) {
         return Err(FormFault::Refused);
@@ -194,8 +214,10 @@ fn read_modes_head(
     place: Place,
     tokens: &[Token],
 ) -> Result<(Statement, Place), FormFault>
-    ensures found { IfOk result (λ x. Form place (Word.Reserved Keyword.Modes ∷ words tokens.now) x.0 x.1) }
-    ensures refused { result ≡ Err FormFault.Refused → NoForm place (Word.Reserved Keyword.Modes ∷ words tokens.now) }
+    ensures found { IfOk result
+        (λ x. Form place (Word.Reserved Keyword.Modes ∷ words tokens.now) x.0 x.1) }
+    ensures refused { result ≡ Err FormFault.Refused
+        → NoForm place (Word.Reserved Keyword.Modes ∷ words tokens.now) }
 {
     if !is_between(place) {
         return Err(FormFault::Refused);
@@ -210,7 +232,8 @@ fn read_modes_head(
 }
 
 fn row_heading(place: Place) -> Option<Heading>
-    ensures { MatchOption result ((heading : Heading) → expects_row heading place → ⊥) (λ heading. expects_row heading place) }
+    ensures { MatchOption result ((heading : Heading) → expects_row heading place → ⊥)
+        (λ heading. expects_row heading place) }
 {
     match place {
         Place::FirstRow(heading) => Some(heading),
@@ -220,8 +243,10 @@ fn row_heading(place: Place) -> Option<Heading>
 }
 
 fn read_row(alloc: Global, place: Place, tokens: &[Token]) -> Result<(Statement, Place), FormFault>
-    ensures found { IfOk result (λ x. Form place (Word.Reserved Keyword.Row ∷ words tokens.now) x.0 x.1) }
-    ensures refused { result ≡ Err FormFault.Refused → NoForm place (Word.Reserved Keyword.Row ∷ words tokens.now) }
+    ensures found { IfOk result
+        (λ x. Form place (Word.Reserved Keyword.Row ∷ words tokens.now) x.0 x.1) }
+    ensures refused { result ≡ Err FormFault.Refused
+        → NoForm place (Word.Reserved Keyword.Row ∷ words tokens.now) }
 {
     let Some(heading) = row_heading(place) else {
         return Err(FormFault::Refused);
@@ -235,8 +260,10 @@ fn read_values(
     place: Place,
     tokens: &[Token],
 ) -> Result<(Statement, Place), FormFault>
-    ensures found { IfOk result (λ x. Form place (Word.Reserved Keyword.Values ∷ words tokens.now) x.0 x.1) }
-    ensures refused { result ≡ Err FormFault.Refused → NoForm place (Word.Reserved Keyword.Values ∷ words tokens.now) }
+    ensures found { IfOk result
+        (λ x. Form place (Word.Reserved Keyword.Values ∷ words tokens.now) x.0 x.1) }
+    ensures refused { result ≡ Err FormFault.Refused
+        → NoForm place (Word.Reserved Keyword.Values ∷ words tokens.now) }
 {
     match place {
         Place::Rows(_) => Ok((Statement::Values(read_sides(alloc, tokens)?), Place::Closed)),
@@ -245,8 +272,10 @@ fn read_values(
 }
 
 fn read_from(alloc: Global, place: Place, tokens: &[Token]) -> Result<(Statement, Place), FormFault>
-    ensures found { IfOk result (λ x. Form place (Word.Reserved Keyword.From ∷ words tokens.now) x.0 x.1) }
-    ensures refused { result ≡ Err FormFault.Refused → NoForm place (Word.Reserved Keyword.From ∷ words tokens.now) }
+    ensures found { IfOk result
+        (λ x. Form place (Word.Reserved Keyword.From ∷ words tokens.now) x.0 x.1) }
+    ensures refused { result ≡ Err FormFault.Refused
+        → NoForm place (Word.Reserved Keyword.From ∷ words tokens.now) }
 {
     match place {
         Place::Transitions => {
@@ -267,8 +296,10 @@ fn may_end(place: Place) -> bool
 }
 
 fn read_end(place: Place, tokens: &[Token]) -> Result<(Statement, Place), FormFault>
-    ensures found { IfOk result (λ x. Form place (Word.Reserved Keyword.End ∷ words tokens.now) x.0 x.1) }
-    ensures refused { result ≡ Err FormFault.Refused → NoForm place (Word.Reserved Keyword.End ∷ words tokens.now) }
+    ensures found { IfOk result
+        (λ x. Form place (Word.Reserved Keyword.End ∷ words tokens.now) x.0 x.1) }
+    ensures refused { result ≡ Err FormFault.Refused
+        → NoForm place (Word.Reserved Keyword.End ∷ words tokens.now) }
 {
     if may_end(place) && is_end(tokens) {
         Ok((Statement::End, Place::Tables))
@@ -278,8 +309,10 @@ fn read_end(place: Place, tokens: &[Token]) -> Result<(Statement, Place), FormFa
 }
 
 fn read_finish(place: Place, tokens: &[Token]) -> Result<(Statement, Place), FormFault>
-    ensures found { IfOk result (λ x. Form place (Word.Reserved Keyword.Finish ∷ words tokens.now) x.0 x.1) }
-    ensures refused { result ≡ Err FormFault.Refused → NoForm place (Word.Reserved Keyword.Finish ∷ words tokens.now) }
+    ensures found { IfOk result
+        (λ x. Form place (Word.Reserved Keyword.Finish ∷ words tokens.now) x.0 x.1) }
+    ensures refused { result ≡ Err FormFault.Refused
+        → NoForm place (Word.Reserved Keyword.Finish ∷ words tokens.now) }
 {
     if is_between(place) && is_end(tokens) {
         Ok((Statement::Finish, Place::After))

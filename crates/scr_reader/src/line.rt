@@ -19,7 +19,9 @@ fn read_tokens(
     tokens: &[Token],
 ) -> Result<(Statement, Position), LineFault>
     requires { limits.is_count_within position.counts ≡ true }
-    ensures { MatchResult result (λ x. Says position (words tokens.now) x.0 x.1) (Fails (WordsRefuse position (words tokens.now))) }
+    ensures { MatchResult result
+        (λ x. Says position (words tokens.now) x.0 x.1)
+        (Fails (WordsRefuse position (words tokens.now))) }
 {
     if !is_line_within(tokens) {
         return Err(LineFault::Refused(TextKind::Limit));
@@ -42,7 +44,9 @@ pub(crate) fn read_line(
     line: &[u8],
 ) -> Result<(Option<Statement>, Position), LineFault>
     requires { limits.is_count_within position.counts ≡ true }
-    ensures { MatchResult result (λ x. LineReads position line.now x.0 x.1) (Fails (LineRefuses position line.now)) }
+    ensures { MatchResult result
+        (λ x. LineReads position line.now x.0 x.1)
+        (Fails (LineRefuses position line.now)) }
 {
     let tokens = lex_line(alloc, line)?;
     if tokens.is_empty() {

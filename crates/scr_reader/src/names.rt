@@ -37,7 +37,8 @@ pub(crate) fn read_names(
     tokens: &[Token],
 ) -> Result<(Items<Name>, &[Token]), FormFault>
     ensures found { IfOk result (λ x. Names (words tokens.now) x.0 (words x.1.now)) }
-    ensures refused { result ≡ Err FormFault.Refused → (names : List (List ℕ)) (rest : List Word) → Names (words tokens.now) names rest → ⊥ }
+    ensures refused { result ≡ Err FormFault.Refused
+        → (names : List (List ℕ)) (rest : List Word) → Names (words tokens.now) names rest → ⊥ }
 {
     let mut names = Items::new(alloc);
     let mut here = tokens;
@@ -56,7 +57,8 @@ pub(crate) fn read_names(
 /// A type.
 pub(crate) fn read_kind(alloc: Global, tokens: &[Token]) -> Result<(DraftKind, &[Token]), FormFault>
     ensures found { IfOk result (λ x. KindOf (words tokens.now) x.0 (words x.1.now)) }
-    ensures refused { result ≡ Err FormFault.Refused → (kind : DraftKind) (rest : List Word) → KindOf (words tokens.now) kind rest → ⊥ }
+    ensures refused { result ≡ Err FormFault.Refused
+        → (kind : DraftKind) (rest : List Word) → KindOf (words tokens.now) kind rest → ⊥ }
 {
     if let Some(rest) = past_keyword(tokens, Keyword::Boolean) {
         return Ok((DraftKind::Boolean, rest));
@@ -73,7 +75,8 @@ pub(crate) fn read_value(
     tokens: &[Token],
 ) -> Result<(DraftValue, &[Token]), FormFault>
     ensures found { IfOk result (λ x. Value (words tokens.now) x.0 (words x.1.now)) }
-    ensures refused { result ≡ Err FormFault.Refused → (value : DraftValue) (rest : List Word) → Value (words tokens.now) value rest → ⊥ }
+    ensures refused { result ≡ Err FormFault.Refused
+        → (value : DraftValue) (rest : List Word) → Value (words tokens.now) value rest → ⊥ }
 {
     if let Some((number, rest)) = read_int(tokens) {
         return Ok((DraftValue::Number(number), rest));

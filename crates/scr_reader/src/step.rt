@@ -8,7 +8,8 @@ use scr_text::{Keyword, Name, Relation, Sign, Token, Word};
 
 /// The first word, and the tokens behind it.
 pub(crate) fn first_word(tokens: &[Token]) -> Option<(&Word, &[Token])>
-    ensures { MatchOption result (words tokens.now ≡ []) (λ x. words tokens.now ≡ x.0.now ∷ words x.1.now) }
+    ensures { MatchOption result (words tokens.now ≡ [])
+        (λ x. words tokens.now ≡ x.0.now ∷ words x.1.now) }
 {
     match tokens.split_first() {
         Some((token, rest)) => Some((&token.word, rest)),
@@ -18,7 +19,8 @@ pub(crate) fn first_word(tokens: &[Token]) -> Option<(&Word, &[Token])>
 
 /// The tokens behind this sign.
 pub(crate) fn past_sign(tokens: &[Token], sign: Sign) -> Option<&[Token]>
-    ensures { MatchOption result (NotAt (Word.Sign sign) (words tokens.now)) (λ rest. words tokens.now ≡ Word.Sign sign ∷ words rest.now) }
+    ensures { MatchOption result (NotAt (Word.Sign sign) (words tokens.now))
+        (λ rest. words tokens.now ≡ Word.Sign sign ∷ words rest.now) }
 {
     match first_word(tokens) {
         Some((Word::Sign(found), rest)) => { if *found == sign { Some(rest) } else { None } }
@@ -28,7 +30,8 @@ pub(crate) fn past_sign(tokens: &[Token], sign: Sign) -> Option<&[Token]>
 
 /// The tokens behind this reserved word.
 pub(crate) fn past_keyword(tokens: &[Token], keyword: Keyword) -> Option<&[Token]>
-    ensures { MatchOption result (NotAt (Word.Reserved keyword) (words tokens.now)) (λ rest. words tokens.now ≡ Word.Reserved keyword ∷ words rest.now) }
+    ensures { MatchOption result (NotAt (Word.Reserved keyword) (words tokens.now))
+        (λ rest. words tokens.now ≡ Word.Reserved keyword ∷ words rest.now) }
 {
     match first_word(tokens) {
         Some((Word::Reserved(found), rest)) => { if *found == keyword { Some(rest) } else { None } }
@@ -38,7 +41,8 @@ pub(crate) fn past_keyword(tokens: &[Token], keyword: Keyword) -> Option<&[Token
 
 /// The reserved word in front.
 pub(crate) fn take_keyword(tokens: &[Token]) -> Option<(Keyword, &[Token])>
-    ensures { MatchOption result (NotAtKeyword (words tokens.now)) (λ x. words tokens.now ≡ Word.Reserved x.0 ∷ words x.1.now) }
+    ensures { MatchOption result (NotAtKeyword (words tokens.now))
+        (λ x. words tokens.now ≡ Word.Reserved x.0 ∷ words x.1.now) }
 {
     match first_word(tokens) {
         Some((Word::Reserved(keyword), rest)) => Some((*keyword, rest)),
@@ -48,7 +52,8 @@ pub(crate) fn take_keyword(tokens: &[Token]) -> Option<(Keyword, &[Token])>
 
 /// The name in front.
 pub(crate) fn take_name(tokens: &[Token]) -> Option<(&Name, &[Token])>
-    ensures { MatchOption result (NotAtName (words tokens.now)) (λ x. words tokens.now ≡ Word.Name x.0.now ∷ words x.1.now) }
+    ensures { MatchOption result (NotAtName (words tokens.now))
+        (λ x. words tokens.now ≡ Word.Name x.0.now ∷ words x.1.now) }
 {
     match first_word(tokens) {
         Some((Word::Name(name), rest)) => Some((name, rest)),
@@ -86,7 +91,8 @@ pub(crate) fn is_end(tokens: &[Token]) -> bool
 
 /// The name, where no other token stands there.
 pub(crate) fn lone_name(tokens: &[Token]) -> Option<&Name>
-    ensures { MatchOption result ((name : List ℕ) → words tokens.now ≡ Word.Name name ∷ [] → ⊥) (λ name. words tokens.now ≡ Word.Name name.now ∷ []) }
+    ensures { MatchOption result ((name : List ℕ) → words tokens.now ≡ Word.Name name ∷ [] → ⊥)
+        (λ name. words tokens.now ≡ Word.Name name.now ∷ []) }
 {
     let (name, rest) = take_name(tokens)?;
     if is_end(rest) { Some(name) } else { None }
@@ -102,7 +108,8 @@ pub(crate) fn lone_name_behind(tokens: &[Token], keyword: Keyword) -> Option<&Na
 }
 
 fn relation_of(sign: Sign) -> Option<Relation>
-    ensures { MatchOption result ((relation : Relation) → sign ≡ sign_of relation → ⊥) (λ relation. sign ≡ sign_of relation) }
+    ensures { MatchOption result ((relation : Relation) → sign ≡ sign_of relation → ⊥)
+        (λ relation. sign ≡ sign_of relation) }
 {
     match sign {
         Sign::Equal => Some(Relation::Equal),
@@ -117,7 +124,8 @@ fn relation_of(sign: Sign) -> Option<Relation>
 
 /// The relation in front.
 pub(crate) fn take_relation(tokens: &[Token]) -> Option<(Relation, &[Token])>
-    ensures { MatchOption result (NotAtRelation (words tokens.now)) (λ x. words tokens.now ≡ Word.Sign (sign_of x.0) ∷ words x.1.now) }
+    ensures { MatchOption result (NotAtRelation (words tokens.now))
+        (λ x. words tokens.now ≡ Word.Sign (sign_of x.0) ∷ words x.1.now) }
 {
     match first_word(tokens) {
         Some((Word::Sign(sign), rest)) => match relation_of(*sign) {

@@ -22,7 +22,8 @@ use std::alloc::Global;
 /// `n [OVER n]`
 pub(crate) fn head_rest(alloc: Global, tokens: &[Token]) -> Result<(Name, Option<Name>), FormFault>
     ensures found { IfOk result (λ x. HeadRest (words tokens.now) x.0 x.1) }
-    ensures refused { result ≡ Err FormFault.Refused → (name : List ℕ) (over : Option (List ℕ)) → HeadRest (words tokens.now) name over → ⊥ }
+    ensures refused { result ≡ Err FormFault.Refused
+        → (name : List ℕ) (over : Option (List ℕ)) → HeadRest (words tokens.now) name over → ⊥ }
 {
     let Some((name, rest)) = take_name(tokens) else {
         return Err(FormFault::Refused);
@@ -44,7 +45,9 @@ pub(crate) fn row_rest(
     tokens: &[Token],
 ) -> Result<(Items<Name>, Items<DraftCell>), FormFault>
     ensures found { IfOk result (λ x. RowRest heading (words tokens.now) x.0 x.1) }
-    ensures refused { result ≡ Err FormFault.Refused → (modes : List (List ℕ)) (cells : List DraftCell) → RowRest heading (words tokens.now) modes cells → ⊥ }
+    ensures refused { result ≡ Err FormFault.Refused
+        → (modes : List (List ℕ)) (cells : List DraftCell)
+        → RowRest heading (words tokens.now) modes cells → ⊥ }
 {
     if let Some(rest) = past_sign(tokens, Sign::Colon) {
         let cells = read_cells(alloc, heading, rest)?;
@@ -60,9 +63,12 @@ pub(crate) fn row_rest(
 
 /// The names of `n TO n :`, and the tokens behind them.
 fn take_modes(tokens: &[Token]) -> Option<(&Name, &Name, &[Token])>
-    ensures { MatchOption result ((source target : List ℕ) (rest : List Word)
-        → words tokens.now ≡ Word.Name source ∷ Word.Reserved Keyword.To ∷ Word.Name target ∷ Word.Sign Sign.Colon ∷ rest → ⊥)
-        (λ x. words tokens.now ≡ Word.Name x.0.now ∷ Word.Reserved Keyword.To ∷ Word.Name x.1.now ∷ Word.Sign Sign.Colon ∷ words x.2.now) }
+    ensures { MatchOption result
+        ((source target : List ℕ) (rest : List Word)
+        → words tokens.now ≡ Word.Name source ∷ Word.Reserved Keyword.To ∷ Word.Name target
+        ∷ Word.Sign Sign.Colon ∷ rest → ⊥)
+        (λ x. words tokens.now ≡ Word.Name x.0.now ∷ Word.Reserved Keyword.To ∷ Word.Name x.1.now
+        ∷ Word.Sign Sign.Colon ∷ words x.2.now) }
 {
     let (source, rest) = take_name(tokens)?;
     let rest = past_keyword(rest, Keyword::To)?;
@@ -73,7 +79,8 @@ fn take_modes(tokens: &[Token]) -> Option<(&Name, &Name, &[Token])>
 #[tactic(auto, using(crate::proofs::Once::event_once))]
 fn read_last_event(alloc: Global, tokens: &[Token]) -> Result<Items<DraftPrim>, FormFault>
     ensures found { IfOk result (λ prims. Event (words tokens.now) prims []) }
-    ensures refused { result ≡ Err FormFault.Refused → (prims : List DraftPrim) → Event (words tokens.now) prims [] → ⊥ }
+    ensures refused { result ≡ Err FormFault.Refused
+        → (prims : List DraftPrim) → Event (words tokens.now) prims [] → ⊥ }
 {
     let (prims, rest) = read_event(alloc, tokens)?;
     if is_end(rest) {
@@ -89,7 +96,9 @@ pub(crate) fn from_rest(
     tokens: &[Token],
 ) -> Result<(Name, Name, Items<DraftPrim>), FormFault>
     ensures found { IfOk result (λ x. FromRest (words tokens.now) x.0 x.1 x.2) }
-    ensures refused { result ≡ Err FormFault.Refused → (source target : List ℕ) (prims : List DraftPrim) → FromRest (words tokens.now) source target prims → ⊥ }
+    ensures refused { result ≡ Err FormFault.Refused
+        → (source target : List ℕ) (prims : List DraftPrim)
+        → FromRest (words tokens.now) source target prims → ⊥ }
 {
     let Some((source, target, rest)) = take_modes(tokens) else {
         return Err(FormFault::Refused);

@@ -50,7 +50,9 @@ fn start() -> Position
 /// The statements of the lines, up to `FINISH`.
 fn read_lines(alloc: Global, text: &[u8]) -> Result<Items<Numbered>, TextFault>
     requires { length text.now ≤ TEXT_LIMIT }
-    ensures { MatchResult result (spec.LinesRead (lines text.now)) (spec.LinesFail (lines text.now)) }
+    ensures { MatchResult result
+        (spec.LinesRead (lines text.now))
+        (spec.LinesFail (lines text.now)) }
 {
     let mut draft = Items::new(alloc);
     let mut position = start();
@@ -76,7 +78,9 @@ fn read_lines(alloc: Global, text: &[u8]) -> Result<Items<Numbered>, TextFault>
 
 /// The statements of a text with their lines, or its first line that is refused.
 pub fn read(alloc: Global, text: &[u8]) -> Result<Draft, TextFault>
-    ensures { MatchResult result (λ draft. spec.TextReads text.now draft.statements) (spec.TextRefuses text.now) }
+    ensures { MatchResult result
+        (λ draft. spec.TextReads text.now draft.statements)
+        (spec.TextRefuses text.now) }
 {
     if text.len() > TEXT_LIMIT {
         return Err(TextFault::Refused(0, TextKind::Limit));
