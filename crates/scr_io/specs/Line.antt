@@ -6,8 +6,8 @@ use Rattle.scr_io.specs.declared.first_line.TheConstants.{LINE_LIMIT}
 use Rattle.scr_io.specs.declared.lines.Piece.{Piece}
 use Rattle.scr_io.specs.declared.lines.Piece.TheVariants.{Line, Long, Past, End}
 
--- what `Lines` means: the bytes that it took and has not handed out, how many it handed out, the most that it hands
--- out, the line that it holds, and whether it goes on
+-- what `Lines` means: the bytes that it took and has not handed out, how many it handed out, the most
+-- that it hands out, the line that it holds, and whether it goes on
 pub record LinesState : Type 0 where
   pub ahead : List ℕ
   pub given : ℕ

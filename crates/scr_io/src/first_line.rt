@@ -17,7 +17,8 @@ pub(crate) const LINE_ROOM: usize = LINE_LIMIT + 2 + READ_SIZE;
 // How many bytes the first line has with its end, if its end is there.
 fn line_end(bytes: &[u8]) -> Option<usize>
     ensures within { IfSome result (λ n. (0 < n) × (n ≤ length bytes.now)) }
-    ensures found { IfSome result (λ n. (more : List ℕ) → line_with_end (bytes.now ++ more) ≡ take n bytes.now) }
+    ensures found { IfSome result (λ n. (more : List ℕ)
+        → line_with_end (bytes.now ++ more) ≡ take n bytes.now) }
     ensures none { IfNone result (All (λ b. b ≢ 10) bytes.now) }
 {
     for (i, byte) in bytes.iter().enumerate() {
@@ -135,7 +136,8 @@ pub(crate) fn seek<S: Shelf>(
 pub(crate) fn ends_within<S: Shelf>(shelf: &mut S, seen: usize, room: usize) -> Result<bool, Failed>
     requires fits { seen ≤ room }
     requires small { room < 2 ^ 32 }
-    ensures exact { IfOk result (λ within. IfSome (S.left shelf.old) (λ more. within ≡ nat_le (seen + length (line_with_end more)) room)) }
+    ensures exact { IfOk result (λ within. IfSome (S.left shelf.old) (λ more.
+        within ≡ nat_le (seen + length (line_with_end more)) room)) }
     ensures taken { TakesAtMost (room + 1 - seen) (S.left shelf.old) (S.left shelf.new) }
     ensures cause { OnErr result (HasRisen (S.faults shelf.old) (S.faults shelf.new)) }
     ensures later { S.faults shelf.old ≤ S.faults shelf.new }

@@ -47,7 +47,13 @@ impl Model for Lines {
 
     ghost use Rattle.scr_io.specs.Lines.{AreKept};
 
-    ghost view = { λ a. record { ahead = drop a.handed a.buf.items; given = a.given; limit = a.limit; line = option_map (λ n. take n a.buf.items) a.line; live = a.live } };
+    ghost view = { λ a. record {
+      ahead = drop a.handed a.buf.items;
+      given = a.given;
+      limit = a.limit;
+      line = option_map (λ n. take n a.buf.items) a.line;
+      live = a.live;
+    } };
 
     ghost invariant = { AreKept };
 }
@@ -56,7 +62,13 @@ impl Lines {
     /// The lines of a file from its start. This takes all the memory that they need.
     pub fn new(alloc: Global, limit: usize) -> Result<Lines, NoMemory>
         requires { limit < 2 ^ 32 }
-        ensures { IfOk result (λ lines. lines ≡ record { ahead = []; given = 0; limit = limit; line = None; live = true }) }
+        ensures { IfOk result (λ lines. lines ≡ record {
+          ahead = [];
+          given = 0;
+          limit = limit;
+          line = None;
+          live = true;
+        }) }
     {
         let buf = Vec::with_capacity(alloc, LINE_ROOM)?;
         Ok(Lines {
@@ -84,12 +96,14 @@ impl Lines {
         requires { IsTrue self.old.live }
         ensures exact { IfOk result (λ piece. IfSome (S.left shelf.old) (λ more.
             piece ≡ next_piece (self.old.limit - self.old.given) (self.old.ahead ++ more))) }
-        ensures line { IfOk result (λ piece. piece ≡ Piece.Line → HandsOut self.old self.new (S.left shelf.old) (S.left shelf.new)) }
+        ensures line { IfOk result (λ piece. piece ≡ Piece.Line
+            → HandsOut self.old self.new (S.left shelf.old) (S.left shelf.new)) }
         ensures over { IfOk result (λ piece. piece ≢ Piece.Line → IsOver self.old self.new) }
         ensures failed { OnErr result (IsOver self.old self.new) }
         ensures given { self.new.given ≤ self.new.limit }
         ensures ahead { self.new.given + length self.new.ahead ≤ self.new.limit + 1 }
-        ensures taken { TakesAtMost (self.old.limit + 1 - (self.old.given + length self.old.ahead)) (S.left shelf.old) (S.left shelf.new) }
+        ensures taken { TakesAtMost (self.old.limit + 1 - (self.old.given + length self.old.ahead))
+            (S.left shelf.old) (S.left shelf.new) }
         ensures cause { OnErr result (HasRisen (S.faults shelf.old) (S.faults shelf.new)) }
         ensures later { S.faults shelf.old ≤ S.faults shelf.new }
         ensures same_contents { S.contents shelf.new ≡ S.contents shelf.old }
