@@ -3,3 +3,5 @@ pub mod Sound
 pub mod Least
 pub mod Judged
 pub mod Columns
+pub mod EndsLemmas
+pub mod Existence
