@@ -6,3 +6,5 @@ pub mod Columns
 pub mod Steps
 pub mod Names
 pub mod Printed
+pub mod EndsLemmas
+pub mod Existence

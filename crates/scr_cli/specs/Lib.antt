@@ -5,3 +5,6 @@ pub mod Search
 pub mod Report
 pub mod Ends
 pub mod Check
+pub mod Load
+pub mod Form
+pub mod Answers

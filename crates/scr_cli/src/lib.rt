@@ -1,10 +1,18 @@
 //! The top call of the program.
 #![tactic(auto)]
 
+mod answer;
 mod built;
+mod check;
+mod form;
+mod job;
 mod judge;
 mod report;
+mod load;
 mod status;
+mod top;
 mod verdict;
 
+pub use form::Form;
 pub use status::Status;
+pub use top::run;

@@ -1,0 +1,54 @@
+//! What `check` answers on a text.
+ghost use Rattle.std.specs.Prelude.{◌≡◌, IfOk, IsTrue};
+ghost use Rattle.scr_spec.specs.Shown.{data_of};
+ghost use Rattle.scr_cli.specs.Search.{is_judgeable};
+ghost use Rattle.scr_cli.specs.Report.{report_text, verdict_status};
+ghost use Rattle.scr_cli.specs.Verdict.{IsVerdict};
+ghost use Rattle.scr_cli.specs.Check.{ChecksText, IsReport, unbuilt_text};
+ghost use Rattle.scr_cli.specs.Ends.{is_own};
+
+use crate::built::spec_of;
+use crate::judge::judge;
+use crate::report::{push_report, verdict_status};
+use crate::status::Status;
+use scr_reader::{TextFault, read};
+use scr_spec::Spec;
+use scr_text::NoMemory;
+use std::alloc::Global;
+
+/// The one line for a text that is not built.
+fn unbuilt(alloc: Global) -> Result<(Vec<u8>, Status), NoMemory>
+    ensures text { IfOk result (λ r. r.0.items ≡ unbuilt_text) }
+    ensures status { IfOk result (λ r. r.1 ≡ Status.SpecRefused) }
+{
+    Ok((Vec::from_slice(alloc, b"line 0: unbuilt\n")?, Status::SpecRefused))
+}
+
+/// The report on the one table of a specification.
+fn report(alloc: Global, spec: &Spec) -> Result<(Vec<u8>, Status), NoMemory>
+    requires { IsTrue (is_judgeable (data_of spec.now)) }
+    ensures report { IfOk result (λ r. IsReport (data_of spec.now) r.0.items r.1) }
+    ensures status { IfOk result (λ r. IsTrue (is_own r.1)) }
+{
+    let table = &spec.tables.as_slice()[0];
+    let verdict = judge(alloc, spec, table)?;
+    let mut out = Vec::new(alloc);
+    push_report(&mut out, spec, table, &verdict)?;
+    Ok((out, verdict_status(&verdict)))
+}
+
+/// What `check` writes for a text, and how it ends.
+pub(crate) fn answer(alloc: Global, text: &[u8]) -> Result<(Vec<u8>, Status), NoMemory>
+    ensures exact { IfOk result (λ r. ChecksText text.now r.0.items r.1) }
+    ensures status { IfOk result (λ r. IsTrue (is_own r.1)) }
+{
+    let draft = match read(alloc, text) {
+        Ok(draft) => draft,
+        Err(TextFault::Refused(_, _)) => return unbuilt(alloc),
+        Err(TextFault::NoMemory) => return Err(NoMemory),
+    };
+    match spec_of(alloc, &draft)? {
+        Some(spec) => report(alloc, &spec),
+        None => unbuilt(alloc),
+    }
+}

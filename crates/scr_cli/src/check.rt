@@ -1,0 +1,34 @@
+//! The command `check`: the verdict on the table of a specification.
+
+use crate::answer::answer;
+use crate::job::Job;
+use crate::load::{Loaded, TEXT_LIMIT};
+use crate::status::Status;
+use scr_text::NoMemory;
+use std::alloc::Global;
+
+/// The command `check`.
+pub(crate) struct Check;
+
+impl Job for Check {
+    ghost use Rattle.scr_cli.specs.Check.{Checks};
+    ghost use Rattle.scr_cli.specs.declared.load.TheConstants.{TEXT_LIMIT};
+
+    ghost answers = { λ _. Checks };
+
+    ghost limit = { λ _. TEXT_LIMIT };
+
+    fn limit(&self) -> usize {
+        TEXT_LIMIT
+    }
+
+    fn answer(&self, alloc: Global, file: Loaded) -> Result<(Vec<u8>, Status), NoMemory> {
+        match file {
+            Loaded::Whole(text) => answer(alloc, text.as_slice()),
+            Loaded::TooLong => {
+                let line = Vec::from_slice(alloc, b"line 0: unbuilt\n")?;
+                Ok((line, Status::SpecRefused))
+            }
+        }
+    }
+}

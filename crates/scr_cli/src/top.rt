@@ -1,0 +1,101 @@
+//! The top call: what the words ask for, and how it ended.
+ghost use Rattle.std.specs.Prelude.{◌≡◌, ◌≢◌, ◌⊎◌, None, IfOk, IfErr, IsErrOf, IsTrue, map, string_bytes};
+ghost use Rattle.scr_io.specs.Outside.{HasRisen};
+ghost use Rattle.scr_cli.specs.Ends.{Answered, Stopped, Ended, is_own};
+ghost use Rattle.scr_cli.specs.Form.{form_of};
+ghost use Rattle.scr_cli.specs.Answers.{Answers, UsageAnswers, HoldsFiles, begins_none, reads_first};
+
+use crate::check::Check;
+use crate::form::{Form, parse};
+use crate::job::respond;
+use crate::load::put;
+use crate::status::{Status, Stop};
+use scr_io::{Shelf, Sink};
+use std::alloc::Global;
+
+/// The line on words that have no form. No file is begun.
+fn usage<S: Shelf, K: Sink>(shelf: &S, out: &mut K) -> Result<Status, Stop>
+    ensures answered { IfOk result (Answered (S.contents shelf.now) (K.written out.old) (K.written out.new)
+        UsageAnswers) }
+    ensures stopped { IfErr result (Stopped (S.contents shelf.now) (K.written out.old) (K.written out.new)
+        UsageAnswers) }
+    ensures status { IfOk result (λ status. status ≡ Status.Usage) }
+    ensures only { IfErr result (λ stop. stop ≡ Stop.Write) }
+    ensures write_cause { IsErrOf result Stop.Write → HasRisen (K.faults out.old) (K.faults out.new) }
+{
+    put(
+        out,
+        b"usage: scr check|simulate|invariants|emit|format|runc|generate|large ...\n",
+    )?;
+    Ok(Status::Usage)
+}
+
+/// Does what the words ask. A fault ends it.
+fn dispatch<S: Shelf, K: Sink>(
+    alloc: Global,
+    words: &[String],
+    shelf: &mut S,
+    out: &mut K,
+) -> Result<Status, Stop>
+    ensures answered { IfOk result (Answered (S.contents shelf.old) (K.written out.old) (K.written out.new)
+        (Answers (map string_bytes words.now))) }
+    ensures stopped { IfErr result (Stopped (S.contents shelf.old) (K.written out.old) (K.written out.new)
+        (Answers (map string_bytes words.now))) }
+    ensures status { IfOk result (λ status. IsTrue (is_own status)
+        ⊎ ((status ≡ Status.Usage) × (form_of (map string_bytes words.now) ≡ None))) }
+    ensures nothing { IsTrue (reads_first (form_of (map string_bytes words.now)))
+        → IsErrOf result Stop.Read → K.written out.new ≡ K.written out.old }
+    ensures read_cause { IsErrOf result Stop.Read → HasRisen (S.faults shelf.old) (S.faults shelf.new) }
+    ensures write_cause { IsErrOf result Stop.Write → HasRisen (K.faults out.old) (K.faults out.new) }
+    ensures no_file { IsTrue (begins_none (form_of (map string_bytes words.now)))
+        → S.faults shelf.new ≡ S.faults shelf.old }
+    ensures no_read { IsTrue (begins_none (form_of (map string_bytes words.now)))
+        → ¬ IsErrOf result Stop.Read }
+    ensures succeeds { S.steady shelf.old
+        → HoldsFiles (S.contents shelf.old) (form_of (map string_bytes words.now)) (map string_bytes words.now)
+        → ¬ IsErrOf result Stop.Read }
+{
+    match parse(words) {
+        None => usage(shelf, out),
+        Some(Form::Check) => respond(&Check, alloc, words[1].as_str(), shelf, out),
+    }
+}
+
+/// Does what the words ask: reads from the shelf, writes to the sink, and says how it ended.
+/// Words that have no form are answered with the usage line.
+///
+/// - `ended`: where the shelf tells its contents and the sink its bytes, this call appended exactly
+///   an answer that is defined for these words and contents, and the status is that answer's. With
+///   a fault it appended the front of such an answer, with `WriteFault` not all of it.
+/// - `nothing`: with `ReadFault`, words whose file is read whole before a byte is written have
+///   appended nothing.
+/// - `read_cause`, `write_cause`: a fault comes only where the shelf, or the sink, failed in this call.
+/// - `usage`: `Usage` comes only from words that have no form.
+/// - `no_file`, `no_read`: words that name no file begin none.
+/// - `succeeds`: on a steady shelf that holds each file of the words, `ReadFault` never comes. So no
+///   other file is begun.
+///
+/// `NoMemory` may come at any growth of memory.
+pub fn run<S: Shelf, K: Sink>(alloc: Global, words: &[String], shelf: &mut S, out: &mut K) -> Status
+    ensures ended { Ended (S.contents shelf.old) (K.written out.old) (K.written out.new)
+        (Answers (map string_bytes words.now)) result }
+    ensures nothing { IsTrue (reads_first (form_of (map string_bytes words.now)))
+        → result ≡ Status.ReadFault → K.written out.new ≡ K.written out.old }
+    ensures read_cause { result ≡ Status.ReadFault → HasRisen (S.faults shelf.old) (S.faults shelf.new) }
+    ensures write_cause { result ≡ Status.WriteFault → HasRisen (K.faults out.old) (K.faults out.new) }
+    ensures usage { result ≡ Status.Usage → form_of (map string_bytes words.now) ≡ None }
+    ensures no_file { IsTrue (begins_none (form_of (map string_bytes words.now)))
+        → S.faults shelf.new ≡ S.faults shelf.old }
+    ensures no_read { IsTrue (begins_none (form_of (map string_bytes words.now)))
+        → result ≢ Status.ReadFault }
+    ensures succeeds { S.steady shelf.old
+        → HoldsFiles (S.contents shelf.old) (form_of (map string_bytes words.now)) (map string_bytes words.now)
+        → result ≢ Status.ReadFault }
+{
+    match dispatch(alloc, words, shelf, out) {
+        Ok(status) => status,
+        Err(Stop::Read) => Status::ReadFault,
+        Err(Stop::Write) => Status::WriteFault,
+        Err(Stop::NoMemory) => Status::NoMemory,
+    }
+}
