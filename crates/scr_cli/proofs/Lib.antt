@@ -8,3 +8,4 @@ pub mod Names
 pub mod Printed
 pub mod EndsLemmas
 pub mod Existence
+pub mod Texts

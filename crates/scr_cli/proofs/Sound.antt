@@ -1,5 +1,5 @@
 -- The specification that the statements spell keeps the rules of a specification.
-use Rattle.std.proofs.Common.{◌≡◌, ℕ, ◌+◌, ◌<◌, ◌≤◌, ◌==◌, cond, zero, suc, ℤ, pos, Bool, true, false, not, ◌&&◌, List, [], ◌∷◌, map, length, Option, Some, None, IsTrue, refl, sym, ap, subst, ◌∙◌, arith}
+use Rattle.std.proofs.Common.{◌≡◌, ℕ, ◌+◌, ◌<◌, ◌≤◌, ◌==◌, cond, suc, ℤ, pos, Bool, true, false, not, ◌&&◌, List, [], ◌∷◌, map, length, Option, Some, None, refl, sym, ap, subst, ◌∙◌, arith}
 use Rattle.std.proofs.lemmas.List.Sums.{sum_by-cons}
 use Rattle.std.specs.Prelude.{count_by, nat_lt, nat_le, int_le, is_none, position, option_map, option_and_then}
 use Rattle.std.specs.List.{list_all}
@@ -20,10 +20,10 @@ use Rattle.scr_reader.specs.declared.draft.DraftOperand.TheVariants as o
 use Rattle.scr_reader.specs.declared.draft.DraftSide.{DraftSide}
 use Rattle.scr_reader.specs.declared.draft.DraftCell.{DraftCell}
 use Rattle.scr_reader.specs.declared.draft.DraftCell.TheVariants as draft_cell
-use Rattle.scr_reader.specs.declared.draft.DraftCond.{DraftCond, fold-DraftCond, fold-roll-DraftCond, ind-DraftCond}
+use Rattle.scr_reader.specs.declared.draft.DraftCond.{DraftCond, fold-roll-DraftCond, ind-DraftCond}
 use Rattle.scr_reader.specs.declared.draft.DraftCond.TheOpen as draft
 use Rattle.scr_reader.specs.declared.draft.DraftCond.TheFolds.{map-DraftCond}
-use Rattle.scr_cli.specs.Built.{is_named, is_monitored, single, atom_of, all_there, cond_step, cond_of, cell_of, cells_of, value_of, values_of, truth_value, with_init, without_init, declared_boolean, declared_kind, declared, variables_of, data_over, table_of, is_plain, is_boolean, IsSoundOver, are_built, are_distinct, dependent_place, tables_of, with_table, with_parts, with_tables, from_declarations, from_first, spec_of, behind, condition_head, row_cells, value_sides, is_closing}
+use Rattle.scr_cli.specs.Built.{is_named, is_monitored, single, atom_of, all_there, cond_step, cond_of, cell_of, cells_of, value_of, values_of, truth_value, with_init, without_init, declared_boolean, declared_kind, declared, variables_of, data_over, table_of, is_plain, is_boolean, IsSoundOver, are_built, are_distinct, dependent_place, tables_of, with_table, with_parts, with_tables, from_first, spec_of, behind, condition_head, row_cells, value_sides, is_closing}
 use Rattle.scr_cli.specs.Search.{is_judgeable}
 use Rattle.scr_spec.specs.declared.table.Table.{Table}
 use Rattle.std.proofs.lemmas.List.{length-map}
