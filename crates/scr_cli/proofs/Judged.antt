@@ -1,7 +1,7 @@
 -- What the search gives is the verdict.
-use Rattle.std.proofs.Common.{◌≡◌, ◌⊎◌, inl, inr, ℕ, ◌+◌, ◌<◌, zero, suc, ℤ, pos, ◌≤ℤ◌, Bool, true, false, ◌&&◌, IsTrue, List, [], ◌∷◌, ◌++◌, length, get_or, map, Option, Some, None, refl, sym, ap, subst, ◌∙◌, append_assoc, add-one, arith}
+use Rattle.std.proofs.Common.{◌≡◌, inl, inr, ℕ, ◌<◌, zero, suc, ℤ, pos, ◌≤ℤ◌, Bool, true, false, List, [], ◌∷◌, length, Option, Some, None, refl, sym, ap, subst, ◌∙◌, arith}
 use Rattle.std.specs.Prelude.{is_none, slice_get, option_map}
-use Rattle.std.specs.Option.{option_or, option_map_or}
+use Rattle.std.specs.Option.{option_or}
 use Rattle.std.specs.List.{All, list_all}
 use Rattle.std.proofs.lemmas.Int.{ints}
 use Rattle.std.proofs.lemmas.List.Elements.{All-cons}
@@ -17,9 +17,9 @@ use Rattle.scr_cli.specs.declared.verdict.Goal.{Goal}
 use Rattle.scr_cli.specs.declared.verdict.Verdict.{Verdict}
 use Rattle.scr_cli.specs.declared.verdict.Verdict.TheVariants.{Yes, No}
 use Rattle.scr_cli.specs.Built.{is_plain, is_boolean}
-use Rattle.scr_cli.specs.Verdict.{violates, goals_of, column_count, comes_first, NoState, IsLeast, NoneViolated, IsFirstViolated, IsVerdict}
+use Rattle.scr_cli.specs.Verdict.{violates, goals_of, column_count, NoState, IsLeast, NoneViolated, IsFirstViolated, IsVerdict}
 use Rattle.scr_cli.specs.Search.{least, first_violated}
-use Rattle.scr_cli.proofs.Least.{IsBit, AreBits, NonePasses, IsLeastBehind, Outcome, outcome}
+use Rattle.scr_cli.proofs.Least.{IsBit, AreBits, Outcome, outcome}
 use Rattle.scr_cli.proofs.Sound.{and_left, and_right}
 
 -- ---- typed states of Booleans
@@ -62,19 +62,19 @@ plain_at (x ∷ xs) h (suc v) k = let p = plain_at xs (and_right (is_plain x) (l
 domain_at : (spec : Data) (v : ℕ) (x : Variable) → slice_get spec.variables v ≡ Some x → domain_of spec v ≡ kind_domain spec.types x.kind
 domain_at spec v x e = rw e refl
 
-typed_bits : (spec : Data) (codes : Codes) → list_all is_plain spec.variables ≡ true → IsTyped spec codes → AreBits codes
+pub typed_bits : (spec : Data) (codes : Codes) → list_all is_plain spec.variables ≡ true → IsTyped spec codes → AreBits codes
 typed_bits spec codes plain typed = bits_from codes (λ v k.
     let p = plain_at spec.variables plain v (omega (arith, typed.one_each)) in
     let w : IsWithin (kind_domain spec.types p.0.kind) (code_of codes v) = subst (λ d. IsWithin d (code_of codes v)) (domain_at spec v p.0 p.1) (typed.within v (omega (arith, typed.one_each))) in
     boolean_domain spec p.0.kind (code_of codes v) p.2 w)
 
-bits_typed : (spec : Data) (codes : Codes) → list_all is_plain spec.variables ≡ true → length codes ≡ length spec.variables → AreBits codes → IsTyped spec codes
+pub bits_typed : (spec : Data) (codes : Codes) → list_all is_plain spec.variables ≡ true → length codes ≡ length spec.variables → AreBits codes → IsTyped spec codes
 bits_typed spec codes plain same bits = record {
-    one_each = same;
-    within = λ v k.
+  one_each = same;
+  within = λ v k.
       let p = plain_at spec.variables plain v k in
       subst (λ d. IsWithin d (code_of codes v)) (sym (domain_at spec v p.0 p.1)) (domain_bit spec p.0.kind (code_of codes v) p.2 (bits_at codes bits v (omega arith)));
-  }
+}
 
 -- ---- the least state
 
@@ -85,10 +85,10 @@ LeastOf spec test (Some at) = IsLeast spec test at
 least_by : (spec : Data) (test : Codes → Bool) → list_all is_plain spec.variables ≡ true → (r : Option Codes) → Outcome test (length spec.variables) [] r → LeastOf spec test r
 least_by spec test plain None h = λ at typed passes. h at typed.one_each (typed_bits spec at plain typed) passes
 least_by spec test plain (Some found) (rest, is, l) = rw is (record {
-    typed = bits_typed spec rest plain l.many l.bits;
-    passes = l.passes;
-    first = λ other typed passes. l.first other typed.one_each (typed_bits spec other plain typed) passes;
-  })
+  typed = bits_typed spec rest plain l.many l.bits;
+  passes = l.passes;
+  first = λ other typed passes. l.first other typed.one_each (typed_bits spec other plain typed) passes;
+})
 
 least_of : (spec : Data) (test : Codes → Bool) → list_all is_plain spec.variables ≡ true → LeastOf spec test (least test (length spec.variables) [])
 least_of spec test plain = least_by spec test plain (least test (length spec.variables) []) (outcome test (length spec.variables) [])
@@ -103,12 +103,12 @@ later : (spec : Data) (table : Table) (goal : Goal) (goals : List Goal) (r : Opt
     → FoundIn spec table (goal ∷ goals) r
 later spec table goal goals None none h = All-cons (λ g. NoState spec (violates spec table g)) goal goals none h
 later spec table goal goals (Some x) none h = record {
-    before = goal ∷ h.before;
-    after = h.after;
-    place = ap (λ gs. goal ∷ gs) h.place;
-    earlier = All-cons (λ g. NoState spec (violates spec table g)) goal h.before none h.earlier;
-    least = h.least;
-  }
+  before = goal ∷ h.before;
+  after = h.after;
+  place = ap (λ gs. goal ∷ gs) h.place;
+  earlier = All-cons (λ g. NoState spec (violates spec table g)) goal h.before none h.earlier;
+  least = h.least;
+}
 
 nothing : {X : Type 0} (P : X → Type 0) → All P []
 nothing P k d h = absurd (omega arith)
@@ -117,12 +117,12 @@ found_by : (spec : Data) (table : Table) (goal : Goal) (goals : List Goal) (a : 
     → FoundIn spec table goals r → FoundIn spec table (goal ∷ goals) (option_or (option_map (λ at. (goal, at)) a) r)
 found_by spec table goal goals None r none h = later spec table goal goals r none h
 found_by spec table goal goals (Some at) r first h = record {
-    before = [];
-    after = goals;
-    place = refl;
-    earlier = nothing (λ g. NoState spec (violates spec table g));
-    least = first;
-  }
+  before = [];
+  after = goals;
+  place = refl;
+  earlier = nothing (λ g. NoState spec (violates spec table g));
+  least = first;
+}
 
 found : (spec : Data) (table : Table) → list_all is_plain spec.variables ≡ true → (goals : List Goal) → FoundIn spec table goals (first_violated spec table goals)
 found spec table plain [] = nothing (λ g. NoState spec (violates spec table g))

@@ -1,8 +1,6 @@
 -- The least list of zeros and ones behind a prefix is the least.
-use Rattle.std.proofs.Common.{◌≡◌, ◌⊎◌, inl, inr, ℕ, zero, suc, ℤ, pos, Bool, true, false, ◌&&◌, ◌||◌, cond, List, [], ◌∷◌, ◌++◌, length, Option, Some, None, refl, sym, ap, subst, ◌∙◌, append_assoc, arith}
-use Rattle.std.specs.Prelude.{int_lt}
+use Rattle.std.proofs.Common.{◌≡◌, ◌⊎◌, inl, inr, ℕ, zero, suc, ℤ, pos, Bool, true, false, cond, List, [], ◌∷◌, ◌++◌, length, Option, Some, None, refl, sym, ap, ◌∙◌, append_assoc, arith}
 use Rattle.std.specs.Option.{option_or}
-use Rattle.std.specs.Ordering.{int_eq}
 use Rattle.std.proofs.lemmas.List.{append-nil}
 use Rattle.scr_cli.specs.Verdict.{comes_first}
 use Rattle.scr_cli.specs.Search.{least}
@@ -40,12 +38,16 @@ before test prefix rest c h = rw append_assoc at h
 
 -- the prefix alone
 alone_by : (test : List ℤ → Bool) (prefix : List ℤ) (b : Bool) → test prefix ≡ b → Outcome test zero prefix (cond b (Some prefix) None)
-alone_by test prefix true e = ([], sym (append-nil prefix), record {
+alone_by test prefix true e = (
+  [],
+  sym (append-nil prefix),
+  record {
     many = refl;
     bits = tt;
     passes = ap test (append-nil prefix) ∙ e;
     first = λ other many bits passes. refl;
-  })
+  },
+)
 alone_by test prefix false e = λ rest many bits passes. none rest many passes
   where
     none : (rest : List ℤ) → length rest ≡ 0 → test (prefix ++ rest) ≡ true → ⊥
@@ -77,18 +79,26 @@ one_first test n prefix rest other h l many bits passes =
 -- with zero first, else with one
 joined : (test : List ℤ → Bool) (n : ℕ) (prefix : List ℤ) (a b : Option (List ℤ)) → Outcome test n (prefix ++ pos 0 ∷ []) a → Outcome test n (prefix ++ pos 1 ∷ []) b
     → Outcome test (suc n) prefix (option_or a b)
-joined test n prefix (Some found) b (rest, is, l) k = (pos 0 ∷ rest, is ∙ append_assoc prefix (pos 0 ∷ []) rest, record {
+joined test n prefix (Some found) b (rest, is, l) k = (
+  pos 0 ∷ rest,
+  is ∙ append_assoc prefix (pos 0 ∷ []) rest,
+  record {
     many = ap suc l.many;
     bits = (inl refl, l.bits);
     passes = before test prefix rest (pos 0) l.passes;
     first = λ other many bits passes. zero_first test n prefix rest other l many bits passes;
-  })
-joined test n prefix None (Some found) h (rest, is, l) = (pos 1 ∷ rest, is ∙ append_assoc prefix (pos 1 ∷ []) rest, record {
+  },
+)
+joined test n prefix None (Some found) h (rest, is, l) = (
+  pos 1 ∷ rest,
+  is ∙ append_assoc prefix (pos 1 ∷ []) rest,
+  record {
     many = ap suc l.many;
     bits = (inr refl, l.bits);
     passes = before test prefix rest (pos 1) l.passes;
     first = λ other many bits passes. one_first test n prefix rest other h l many bits passes;
-  })
+  },
+)
 joined test n prefix None None h k = λ rest many bits passes. (let m = none_zero test n prefix rest h many bits passes in k m.0 m.2 m.3 m.4)
 
 -- the search gives the least, or there is none

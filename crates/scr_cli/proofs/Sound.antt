@@ -1,14 +1,14 @@
 -- The specification that the statements spell keeps the rules of a specification.
-use Rattle.std.proofs.Common.{◌≡◌, ℕ, ◌<◌, ◌≤◌, ◌==◌, cond, zero, suc, ℤ, pos, Bool, true, false, ◌&&◌, List, [], ◌∷◌, map, length, Option, Some, None, IsTrue, refl, sym, ap, subst, ◌∙◌, arith}
-use Rattle.std.specs.Prelude.{nat_lt, nat_le, int_le, is_none, position, option_map, option_and_then}
+use Rattle.std.proofs.Common.{◌≡◌, ℕ, ◌+◌, ◌<◌, ◌≤◌, ◌==◌, cond, zero, suc, ℤ, pos, Bool, true, false, not, ◌&&◌, List, [], ◌∷◌, map, length, Option, Some, None, IsTrue, refl, sym, ap, subst, ◌∙◌, arith}
+use Rattle.std.proofs.lemmas.List.Sums.{sum_by-cons}
+use Rattle.std.specs.Prelude.{count_by, nat_lt, nat_le, int_le, is_none, position, option_map, option_and_then}
 use Rattle.std.specs.List.{list_all}
-use Rattle.std.specs.Ordering.{int_eq}
 use Rattle.std.proofs.lemmas.List.Folds.{list_all-map}
 use Rattle.scr_spec.specs.Data.{Data}
 use Rattle.scr_spec.specs.Over.{is_cond_over, over_step, is_side_over}
-use Rattle.scr_spec.specs.Cells.{is_cell_over, is_row_over, is_table_over}
+use Rattle.scr_spec.specs.Cells.{is_cell_over}
 use Rattle.scr_spec.specs.Sound.{IsSound}
-use Rattle.scr_spec.specs.declared.cond.Cond.{Cond, fold-Cond, fold-roll-Cond}
+use Rattle.scr_spec.specs.declared.cond.Cond.{Cond, fold-roll-Cond}
 use Rattle.scr_spec.specs.declared.cond.Cond.TheVariants as c
 use Rattle.scr_spec.specs.declared.cond.Cond.TheOpen as layer
 use Rattle.scr_spec.specs.declared.cond.Expr.{Expr}
@@ -17,14 +17,13 @@ use Rattle.scr_spec.specs.declared.table.Cell.{Cell}
 use Rattle.scr_spec.specs.declared.table.Cell.TheVariants as cell
 use Rattle.scr_reader.specs.declared.draft.DraftOperand.{DraftOperand}
 use Rattle.scr_reader.specs.declared.draft.DraftOperand.TheVariants as o
-use Rattle.scr_reader.specs.declared.draft.DraftItem.{DraftItem}
 use Rattle.scr_reader.specs.declared.draft.DraftSide.{DraftSide}
 use Rattle.scr_reader.specs.declared.draft.DraftCell.{DraftCell}
 use Rattle.scr_reader.specs.declared.draft.DraftCell.TheVariants as draft_cell
 use Rattle.scr_reader.specs.declared.draft.DraftCond.{DraftCond, fold-DraftCond, fold-roll-DraftCond, ind-DraftCond}
 use Rattle.scr_reader.specs.declared.draft.DraftCond.TheOpen as draft
 use Rattle.scr_reader.specs.declared.draft.DraftCond.TheFolds.{map-DraftCond}
-use Rattle.scr_cli.specs.Built.{is_named, is_monitored, single, atom_of, all_there, cond_step, cond_of, cell_of, cells_of, value_of, values_of, truth_value, with_init, without_init, declared_boolean, declared_kind, declared, variables_of, data_over, table_of, is_plain, is_boolean, IsSoundOver, are_built, dependent_place, tables_of, with_table, with_parts, with_tables, from_declarations, from_first, spec_of, behind, condition_head, row_cells, value_sides, is_closing}
+use Rattle.scr_cli.specs.Built.{is_named, is_monitored, single, atom_of, all_there, cond_step, cond_of, cell_of, cells_of, value_of, values_of, truth_value, with_init, without_init, declared_boolean, declared_kind, declared, variables_of, data_over, table_of, is_plain, is_boolean, IsSoundOver, are_built, are_distinct, dependent_place, tables_of, with_table, with_parts, with_tables, from_declarations, from_first, spec_of, behind, condition_head, row_cells, value_sides, is_closing}
 use Rattle.scr_cli.specs.Search.{is_judgeable}
 use Rattle.scr_spec.specs.declared.table.Table.{Table}
 use Rattle.std.proofs.lemmas.List.{length-map}
@@ -235,19 +234,43 @@ plain_bounds : (xs : List Variable) → list_all is_plain xs ≡ true → list_a
 plain_bounds [] h = refl
 plain_bounds (x ∷ xs) h =
     and_true _ _ (unbound (λ k. is_monitored_role x.role && is_integer_kind [] x.kind && int_le (pos 1) k && is_narrow k) x.bound
-        (and_right (is_boolean x.kind) (is_none x.bound) (and_left (is_plain x) (list_all is_plain xs) h)))
+    (and_right (is_boolean x.kind) (is_none x.bound) (and_left (is_plain x) (list_all is_plain xs) h)))
     (plain_bounds xs (and_right (is_plain x) (list_all is_plain xs) h))
+
+-- ---- the number of variables
+
+-- a test and its opposite count one together
+one_of_two : (b : Bool) → cond (not b) 1 0 + cond b 1 0 ≡ 1
+one_of_two true = refl
+one_of_two false = refl
+
+-- each member passes a test or does not
+split_count : {X : Type 0} (p : X → Bool) (xs : List X) → count_by (λ x. not (p x)) xs + count_by p xs ≡ length xs
+split_count p [] = refl
+split_count p (x ∷ xs) =
+    let no = sum_by-cons (λ x. cond (not (p x)) 1 0) x xs in
+    let yes = sum_by-cons (λ x. cond (p x) 1 0) x xs in
+    omega (arith, no, yes, one_of_two (p x), split_count p xs)
+
+-- what is judged has at most thirteen variables
+few_built : (variables : List Variable) → are_built variables ≡ true → nat_le (length variables) 128 ≡ true
+few_built variables h =
+    let three = and_right (are_distinct variables && count_by (λ x. not (is_monitored x)) variables == 1) (nat_le (count_by is_monitored variables) 12) h in
+    let two = and_right (are_distinct variables) (count_by (λ x. not (is_monitored x)) variables == 1) (and_left _ _ h) in
+    let all = split_count is_monitored variables in
+    grind (arith, nat_tests, three, two, all)
 
 -- ---- the whole
 
 -- a table of made cells and values, over plain variables
 pub sound : (name : List ℕ) (variables : List Variable) (v : ℕ) (cells : List Cell) (values : List Expr)
-    → list_all is_plain variables ≡ true → nat_lt v (length variables) ≡ true
+    → nat_le (length variables) 128 ≡ true → list_all is_plain variables ≡ true → nat_lt v (length variables) ≡ true
     → list_all (is_cell_over (data_over name variables (table_of v cells values ∷ []))) cells ≡ true
     → list_all (is_side_over (data_over name variables (table_of v cells values ∷ []))) values ≡ true → nat_le (length cells) 16 ≡ true
     → IsSound (data_over name variables (table_of v cells values ∷ []))
-sound name variables v cells values plain place over sides few =
+sound name variables v cells values bounded plain place over sides few =
     record {
+      few = bounded;
       types = refl;
       kinds = plain_kinds variables plain;
       bounds = plain_bounds variables plain;
@@ -266,16 +289,16 @@ length_made (Some y ∷ rs) xs e = length_by y (all_there rs) (length rs) (λ ys
 
 -- the table that is made keeps the rules
 pub made_sound : (variables : List Variable) (v : ℕ) (cells : List Cell) (values : List Expr) (tables : List Table) (drafts : List DraftCell) (sides : List DraftSide)
-    → list_all is_plain variables ≡ true → v < length variables → Some cells ≡ cells_of variables drafts → Some values ≡ values_of sides → length drafts ≤ 16
+    → are_built variables ≡ true → list_all is_plain variables ≡ true → v < length variables → Some cells ≡ cells_of variables drafts → Some values ≡ values_of sides → length drafts ≤ 16
     → tables ≡ table_of v cells values ∷ [] → IsSoundOver variables tables
-made_sound variables v cells values tables drafts sides plain place made given few is name =
+made_sound variables v cells values tables drafts sides built plain place made given few is name =
     let spec : Data = data_over name variables (table_of v cells values ∷ []) in
     let over : list_all (is_cell_over spec) cells ≡ true = subst (λ r. IfMade (list_all (is_cell_over spec)) r) (sym made) (cells_kept spec drafts) in
     let sides_over : list_all (is_side_over spec) values ≡ true = subst (λ r. IfMade (list_all (is_side_over spec)) r) (sym given) (values_kept spec sides) in
     let long : length cells ≡ length drafts = length_made (map (cell_of variables) drafts) cells (sym made) ∙ length-map drafts (cell_of variables) in
     let there : nat_lt v (length variables) ≡ true = grind (arith, nat_tests) in
     let small : nat_le (length cells) 16 ≡ true = grind (arith, nat_tests) in
-    rw is (sound name variables v cells values plain there over sides_over small)
+    rw is (sound name variables v cells values (few_built variables built) plain there over sides_over small)
 
 -- ---- what is spelled is judged
 
@@ -290,9 +313,11 @@ judgeable_table name ss t cells sides = one (tables_of (variables_of ss) t cells
     one : (r : Option (List Table)) → IfMade (λ tables. length tables == 1) r → IfMade is_judgeable (option_map (data_over name (variables_of ss)) r)
     one r h = map_made (data_over name (variables_of ss)) (λ tables. length tables == 1) is_judgeable r
         (λ tables k. and_true _ _ (plain_variables ss) k) h
+
     by_test : (b : Bool) (r : Option (List Table)) → IfMade (λ tables. length tables == 1) r → IfMade (λ tables. length tables == 1) (cond b r None)
     by_test true r h = h
     by_test false r h = tt
+
     one_table : (variables : List Variable) (t : List ℕ) (cells : List DraftCell) (sides : List DraftSide) → IfMade (λ tables. length tables == 1) (tables_of variables t cells sides)
     one_table variables t cells sides = by_test _ _ (then_made _ _ (dependent_place variables t) (λ v. then_made _ _ (cells_of variables cells)
         (λ cs. map_made _ (λ es. true) (λ tables. length tables == 1) (values_of sides) (λ es k. refl) (always (values_of sides)))))

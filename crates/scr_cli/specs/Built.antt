@@ -155,8 +155,13 @@ value_of side = option_and_then truth_value (single side)
 
 -- the condition table of the variable with this number
 abbrev pub table_of : ℕ → List Cell → List Expr → Table
-table_of v cells values = record { variable = v; heading = heading.Condition; class = None;
-    rows = record { modes = []; cells = cells; targets = [] } ∷ []; values = values }
+table_of v cells values = record {
+  variable = v;
+  heading = heading.Condition;
+  class = None;
+  rows = record { modes = []; cells = cells; targets = [] } ∷ [];
+  values = values;
+}
 
 abbrev pub data_over : List ℕ → List Variable → List Table → Data
 data_over name variables tables = record { name = name; types = []; constants = []; variables = variables; tables = tables }
@@ -184,7 +189,7 @@ abbrev pub tables_of : List Variable → List ℕ → List DraftCell → List Dr
 tables_of variables t cells sides =
     if are_built variables && length cells == length sides && nat_le (length cells) 16
     then option_and_then (λ v. option_and_then (λ cs. option_map (λ es. table_of v cs es ∷ []) (values_of sides)) (cells_of variables cells))
-        (dependent_place variables t)
+    (dependent_place variables t)
     else None
 
 abbrev pub with_table : List ℕ → List Variable → List ℕ → List DraftCell → List DraftSide → Option Data

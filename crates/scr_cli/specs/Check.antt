@@ -13,10 +13,18 @@ use Rattle.scr_cli.specs.Ends.{Answer}
 abbrev pub unbuilt_text : List ℕ
 unbuilt_text = codes "line 0: unbuilt\n"
 
--- of a text: the report on its table, or the one line where it is not built
+-- the report on the one table of the specification, by the table's verdict
+pub record IsReport (spec : Data) (bytes : List ℕ) (status : Status) : Type 0 where
+  pub table : Table
+  pub verdict : Verdict
+  pub only : spec.tables ≡ table ∷ []
+  pub judged : IsVerdict spec table verdict
+  pub text : bytes ≡ report_text spec table verdict
+  pub ends : status ≡ verdict_status verdict
+
+-- of a text: the report on the specification that it spells, or the one line where it is not built
 pub data ChecksText : List ℕ → List ℕ → Status → Type 0 where
-  judged : {text : List ℕ} (spec : Data) (table : Table) (verdict : Verdict) → Spells text spec → spec.tables ≡ table ∷ [] → IsVerdict spec table verdict
-      → ChecksText text (report_text spec table verdict) (verdict_status verdict)
+  reports : {text bytes : List ℕ} {status : Status} (spec : Data) → Spells text spec → IsReport spec bytes status → ChecksText text bytes status
   unbuilt : {text : List ℕ} → Unbuilt text → ChecksText text unbuilt_text SpecRefused
 
 -- of a file, if it is there

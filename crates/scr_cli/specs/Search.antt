@@ -1,15 +1,15 @@
 -- The search that finds verdicts: the least state of Booleans that passes a test, and the first goal with one.
-use Rattle.std.specs.Prelude.{◌≡◌, ℕ, ◌<◌, ◌≤◌, zero, suc, ◌==◌, ℤ, pos, Bool, true, false, ◌&&◌, if◌then◌else◌, IsTrue, List, [], ◌∷◌, ◌++◌, length, Option, Some, None, option_map}
+use Rattle.std.specs.Prelude.{◌≡◌, ℕ, ◌<◌, ◌≤◌, zero, suc, ◌==◌, pos, Bool, true, ◌&&◌, if◌then◌else◌, IsTrue, List, [], ◌∷◌, ◌++◌, length, Option, Some, None, option_map}
 use Rattle.std.specs.Option.{option_or}
 use Rattle.std.specs.List.{list_all}
 use Rattle.scr_spec.specs.Data.{Data}
 use Rattle.scr_spec.specs.Meaning.{Codes}
-use Rattle.scr_spec.specs.Cells.{is_table_over, has_cell}
+use Rattle.scr_spec.specs.Cells.{is_table_over}
 use Rattle.scr_spec.specs.declared.table.Table.{Table}
 use Rattle.scr_cli.specs.declared.verdict.Goal.{Goal}
 use Rattle.scr_cli.specs.declared.verdict.Goal.TheVariants.{Disjoint, Cover}
 use Rattle.scr_cli.specs.Built.{is_plain}
-use Rattle.scr_cli.specs.Verdict.{violates, column_count}
+use Rattle.scr_cli.specs.Verdict.{violates}
 
 -- the least list that begins with the prefix, goes on with so many zeros and ones, and passes the test
 unfoldable pub least : (Codes → Bool) → ℕ → Codes → Option Codes

@@ -1,6 +1,6 @@
 -- The verdict on a condition table of one row over Booleans: no two cells hold together and some cell holds, at every
 -- typed state (TOSEM 1996), or else the first violation with the least state.
-use Rattle.std.specs.Prelude.{◌≡◌, ℕ, ◌+◌, ◌-◌, int_lt, Bool, true, false, not, ◌&&◌, ◌||◌, nat_eq, IsTrue, List, [], ◌∷◌, ◌++◌, length, map, flat_map, filter, slice_get, All}
+use Rattle.std.specs.Prelude.{◌≡◌, ℕ, ◌+◌, ◌-◌, int_lt, Bool, true, false, not, ◌&&◌, ◌||◌, nat_eq, IsTrue, List, [], ◌∷◌, ◌++◌, length, map, flat_map, slice_get, All}
 use Rattle.std.specs.Option.{option_map_or}
 use Rattle.std.specs.Ordering.{int_eq}
 use Rattle.std.specs.List.{list_any, list_all, range_with_len}
@@ -119,7 +119,3 @@ goal_names v cells Cover = list_any (cell_names v) cells
 -- the cells of the row
 abbrev pub row_cells : Table → List Cell
 row_cells table = option_map_or (λ row. row.cells) (slice_get table.rows 0) []
-
--- the variables that the goal names, in order of declaration
-abbrev pub named_by : Data → Table → Goal → List ℕ
-named_by spec table goal = filter (λ v. goal_names v (row_cells table) goal) (range_with_len 0 (length spec.variables))

@@ -6,7 +6,10 @@ ghost use Rattle.scr_spec.specs.Shown.{data_of};
 ghost use Rattle.scr_spec.specs.Sound.{IsSound};
 ghost use Rattle.scr_cli.specs.Built as spec;
 
-use scr_reader::{Draft, DraftCell, DraftCond, DraftItem, DraftKind, DraftOperand, DraftSide, DraftValue, Numbered, Statement};
+use scr_reader::{
+    Draft, DraftCell, DraftCond, DraftItem, DraftKind, DraftOperand, DraftSide, DraftValue,
+    Numbered, Statement,
+};
 use scr_spec::{Cell, Cond, Expr, Heading, Item, Kind, Operand, Role, Row, Spec, Table, Variable};
 use scr_text::{Name, NoMemory};
 use sqlite_items::{Boxed, Items};
@@ -37,21 +40,41 @@ fn boolean(alloc: Global, name: &Name, role: Role, init: Option<i64>) -> Result<
     ensures { IfOk result (λ x. x ≡ spec.boolean name.now role init) }
 {
     let name = name.copy(alloc)?;
-    Ok(Variable { name, role, kind: Kind::Boolean, init, bound: None })
+    Ok(Variable {
+        name,
+        role,
+        kind: Kind::Boolean,
+        init,
+        bound: None,
+    })
 }
 
-fn with_init(alloc: Global, name: &Name, init: &Option<DraftValue>) -> Result<Option<Variable>, NoMemory>
+fn with_init(
+    alloc: Global,
+    name: &Name,
+    init: &Option<DraftValue>,
+) -> Result<Option<Variable>, NoMemory>
     ensures { IfOk result (λ x. x ≡ spec.with_init name.now init.now) }
 {
     match init {
-        Some(DraftValue::Truth(truth)) => Ok(Some(boolean(alloc, name, Role::Monitored, Some(i64::from(*truth)))?)),
+        Some(DraftValue::Truth(truth)) => Ok(Some(boolean(
+            alloc,
+            name,
+            Role::Monitored,
+            Some(i64::from(*truth)),
+        )?)),
         Some(DraftValue::Number(_)) => Ok(None),
         Some(DraftValue::Named(_)) => Ok(None),
         None => Ok(None),
     }
 }
 
-fn without_init(alloc: Global, name: &Name, role: Role, init: &Option<DraftValue>) -> Result<Option<Variable>, NoMemory>
+fn without_init(
+    alloc: Global,
+    name: &Name,
+    role: Role,
+    init: &Option<DraftValue>,
+) -> Result<Option<Variable>, NoMemory>
     ensures { IfOk result (λ x. x ≡ spec.without_init name.now role init.now) }
 {
     match init {
@@ -60,7 +83,12 @@ fn without_init(alloc: Global, name: &Name, role: Role, init: &Option<DraftValue
     }
 }
 
-fn declared_boolean(alloc: Global, role: Role, name: &Name, init: &Option<DraftValue>) -> Result<Option<Variable>, NoMemory>
+fn declared_boolean(
+    alloc: Global,
+    role: Role,
+    name: &Name,
+    init: &Option<DraftValue>,
+) -> Result<Option<Variable>, NoMemory>
     ensures { IfOk result (λ x. x ≡ spec.declared_boolean role name.now init.now) }
 {
     match role {
@@ -85,7 +113,10 @@ fn declared(alloc: Global, statement: &Statement) -> Result<Option<Variable>, No
 }
 
 /// The variables of the leading declarations, and the statements behind them.
-fn variables_of(alloc: Global, statements: &[Numbered]) -> Result<(Items<Variable>, &[Numbered]), NoMemory>
+fn variables_of(
+    alloc: Global,
+    statements: &[Numbered],
+) -> Result<(Items<Variable>, &[Numbered]), NoMemory>
     ensures variables { IfOk result (λ x. x.0 ≡ spec.variables_of (spec.statements statements.now)) }
     ensures behind { IfOk result (λ x. spec.statements x.1.now ≡ spec.behind (spec.statements statements.now)) }
 {
@@ -127,14 +158,18 @@ fn monitored_place(variables: &[Variable], name: &Name) -> Option<usize>
     ensures exact { result ≡ position (λ x. spec.is_named name.now x && spec.is_monitored x) variables.now }
     ensures within { IfSome result (λ v. v < length variables.now) }
 {
-    variables.iter().position(|x| is_named(name, x) && is_monitored(x))
+    variables
+        .iter()
+        .position(|x| is_named(name, x) && is_monitored(x))
 }
 
 fn dependent_place(variables: &[Variable], name: &Name) -> Option<usize>
     ensures exact { result ≡ spec.dependent_place variables.now name.now }
     ensures within { IfSome result (λ v. v < length variables.now) }
 {
-    variables.iter().position(|x| is_named(name, x) && !is_monitored(x))
+    variables
+        .iter()
+        .position(|x| is_named(name, x) && !is_monitored(x))
 }
 
 fn atom_of(variables: &[Variable], operand: &DraftOperand) -> Option<Cond>
@@ -163,7 +198,11 @@ fn alone(variables: &[Variable], side: &DraftSide) -> Option<Cond>
 /// The condition that a cell spells, where it names monitored variables alone and compares nothing.
 #[cycle(conditions)]
 #[tactic(auto, using(crate::proofs::Conditions::cond_laws, scr_reader::specs::declared::draft::DraftCond::TheViews::the_lemmas))]
-fn cond_of(alloc: Global, variables: &[Variable], draft: &DraftCond) -> Result<Option<Cond>, NoMemory>
+fn cond_of(
+    alloc: Global,
+    variables: &[Variable],
+    draft: &DraftCond,
+) -> Result<Option<Cond>, NoMemory>
     ensures { IfOk result (λ c. c ≡ spec.cond_of variables.now draft.now) }
 {
     match draft {
@@ -185,7 +224,11 @@ fn cond_of(alloc: Global, variables: &[Variable], draft: &DraftCond) -> Result<O
 }
 
 #[cycle(conditions)]
-fn conds_of(alloc: Global, variables: &[Variable], drafts: &[DraftCond]) -> Result<Option<Items<Cond>>, NoMemory>
+fn conds_of(
+    alloc: Global,
+    variables: &[Variable],
+    drafts: &[DraftCond],
+) -> Result<Option<Items<Cond>>, NoMemory>
     ensures { IfOk result (λ cs. cs ≡ spec.all_there (map (spec.cond_of variables.now) drafts.now)) }
 {
     let mut found = Items::new(alloc);
@@ -198,7 +241,11 @@ fn conds_of(alloc: Global, variables: &[Variable], drafts: &[DraftCond]) -> Resu
     Ok(Some(found))
 }
 
-fn cell_of(alloc: Global, variables: &[Variable], draft: &DraftCell) -> Result<Option<Cell>, NoMemory>
+fn cell_of(
+    alloc: Global,
+    variables: &[Variable],
+    draft: &DraftCell,
+) -> Result<Option<Cell>, NoMemory>
     ensures { IfOk result (λ c. c ≡ spec.cell_of variables.now draft.now) }
 {
     match draft {
@@ -210,7 +257,11 @@ fn cell_of(alloc: Global, variables: &[Variable], draft: &DraftCell) -> Result<O
     }
 }
 
-fn cells_of(alloc: Global, variables: &[Variable], drafts: &[DraftCell]) -> Result<Option<Items<Cell>>, NoMemory>
+fn cells_of(
+    alloc: Global,
+    variables: &[Variable],
+    drafts: &[DraftCell],
+) -> Result<Option<Items<Cell>>, NoMemory>
     ensures { IfOk result (λ cs. cs ≡ spec.cells_of variables.now drafts.now) }
 {
     let mut found = Items::new(alloc);
@@ -229,7 +280,10 @@ fn value_of(alloc: Global, side: &DraftSide) -> Result<Option<Expr>, NoMemory>
     match single(side) {
         Some(DraftOperand::Truth(truth)) => {
             let mut items = Items::new(alloc);
-            items.push(Item { factor: 1, operand: Operand::Truth(*truth) })?;
+            items.push(Item {
+                factor: 1,
+                operand: Operand::Truth(*truth),
+            })?;
             Ok(Some(Expr { items }))
         }
         Some(DraftOperand::One) => Ok(None),
@@ -286,24 +340,41 @@ fn dependent_count(variables: &[Variable]) -> usize
 fn are_built(variables: &[Variable]) -> bool
     ensures { result ≡ spec.are_built variables.now }
 {
-    are_distinct(variables) && dependent_count(variables) == 1 && monitored_count(variables) <= MONITORED
+    are_distinct(variables)
+        && dependent_count(variables) == 1
+        && monitored_count(variables) <= MONITORED
 }
 
 /// A row without modes.
 fn single_row(alloc: Global, cells: Items<Cell>) -> Result<Items<Row>, NoMemory>
     ensures { IfOk result (λ rows. rows ≡ record { modes = []; cells = cells; targets = [] } ∷ []) }
 {
-    let row = Row { modes: Items::new(alloc), cells, targets: Items::new(alloc) };
+    let row = Row {
+        modes: Items::new(alloc),
+        cells,
+        targets: Items::new(alloc),
+    };
     let mut rows = Items::new(alloc);
     rows.push(row)?;
     Ok(rows)
 }
 
-fn table_of(alloc: Global, v: usize, cells: Items<Cell>, values: Items<Expr>) -> Result<Items<Table>, NoMemory>
+fn table_of(
+    alloc: Global,
+    v: usize,
+    cells: Items<Cell>,
+    values: Items<Expr>,
+) -> Result<Items<Table>, NoMemory>
     ensures { IfOk result (λ tables. tables ≡ spec.table_of v cells values ∷ []) }
 {
     let rows = single_row(alloc, cells)?;
-    let table = Table { variable: v, heading: Heading::Condition, class: None, rows, values };
+    let table = Table {
+        variable: v,
+        heading: Heading::Condition,
+        class: None,
+        rows,
+        values,
+    };
     let mut tables = Items::new(alloc);
     tables.push(table)?;
     Ok(tables)
@@ -313,7 +384,13 @@ fn spec_with(alloc: Global, name: Name, variables: Items<Variable>, tables: Item
     requires { IsSound (spec.data_over name variables tables) }
     ensures { data_of result ≡ spec.data_over name variables tables }
 {
-    Spec { name, types: Items::new(alloc), constants: Items::new(alloc), variables, tables }
+    Spec {
+        name,
+        types: Items::new(alloc),
+        constants: Items::new(alloc),
+        variables,
+        tables,
+    }
 }
 
 /// The one table, where its parts are such as are judged.
@@ -473,7 +550,12 @@ fn with_parts(
     with_table(alloc, name, variables, t, cells, sides)
 }
 
-fn with_tables(alloc: Global, name: &Name, variables: Items<Variable>, lines: &[Numbered]) -> Result<Option<Spec>, NoMemory>
+fn with_tables(
+    alloc: Global,
+    name: &Name,
+    variables: Items<Variable>,
+    lines: &[Numbered],
+) -> Result<Option<Spec>, NoMemory>
     requires { list_all spec.is_plain variables ≡ true }
     ensures { IfOk result (λ made. option_map data_of made ≡ spec.with_tables name.now variables (spec.statements lines.now)) }
 {
@@ -493,7 +575,11 @@ fn with_tables(alloc: Global, name: &Name, variables: Items<Variable>, lines: &[
     }
 }
 
-fn from_declarations(alloc: Global, name: &Name, lines: &[Numbered]) -> Result<Option<Spec>, NoMemory>
+fn from_declarations(
+    alloc: Global,
+    name: &Name,
+    lines: &[Numbered],
+) -> Result<Option<Spec>, NoMemory>
     ensures { IfOk result (λ made. option_map data_of made ≡ spec.from_declarations name.now (spec.statements lines.now)) }
 {
     let (variables, rest) = variables_of(alloc, lines)?;

@@ -1,7 +1,8 @@
 //! The verdict on the one table of a specification of Booleans, by going through its states.
-ghost use Rattle.std.specs.Prelude.{◌≡◌, ◌+◌, ◌-◌, ◌<◌, ◌≤◌, ◌++◌, Bool, true, if◌then◌else◌, length, take, IsTrue, Some, None, IfOk, IfSome, OnOk, All};
+ghost use Rattle.std.specs.Prelude.{◌≡◌, ◌+◌, ◌-◌, ◌<◌, ◌≤◌, [], ◌∷◌, ◌++◌, Bool, true, if◌then◌else◌, option_map, length, take, IsTrue, Some, None, IfOk, IfSome, OnOk, All};
 ghost use Rattle.std.specs.List.{list_all, range_with_len, flat_map};
 ghost use Rattle.scr_spec.specs.Shown.{data_of};
+ghost use Rattle.scr_spec.specs.Meaning as meaning;
 ghost use Rattle.scr_spec.specs.Domains.{IsTyped};
 ghost use Rattle.scr_spec.specs.Cells.{holds_in};
 ghost use Rattle.scr_cli.specs.Verdict.{column_count, goals_of, pairs_from, violates, none_holds, IsVerdict};
@@ -74,9 +75,35 @@ fn is_against(spec: &Spec, table: &Table, columns: u32, goal: Goal, at: &State) 
     }
 }
 
+fn truth_code(truth: bool) -> i64
+    ensures { result ≡ meaning.truth_code truth }
+{
+    i64::from(truth)
+}
+
+/// Gives a variable another truth value.
+#[tactic(auto, using(crate::proofs::Steps::set_laws))]
+fn set_truth(spec: &Spec, table: &Table, at: &mut State, v: usize, truth: bool)
+    requires judged { IsJudged (data_of spec.now) table.now }
+    requires typed { IsTyped (data_of spec.now) at.old.codes }
+    requires variable { v < length spec.now.variables }
+    ensures prefix { take (v + 1) at.new.codes ≡ take v at.old.codes ++ meaning.truth_code truth ∷ [] }
+    ensures kept { take v at.new.codes ≡ take v at.old.codes }
+    ensures typed { IsTyped (data_of spec.now) at.new.codes }
+{
+    at.codes.set(v, truth_code(truth));
+}
+
 /// Looks for the least state that is against the goal and agrees with this one on the variables
 /// before `v`.
-fn find_least(spec: &Spec, table: &Table, columns: u32, goal: Goal, at: &mut State, v: usize) -> bool
+fn find_least(
+    spec: &Spec,
+    table: &Table,
+    columns: u32,
+    goal: Goal,
+    at: &mut State,
+    v: usize,
+) -> bool
     requires judged { IsJudged (data_of spec.now) table.now }
     requires typed { IsTyped (data_of spec.now) at.old.codes }
     requires all { columns ≡ column_count table.now }
@@ -90,11 +117,11 @@ fn find_least(spec: &Spec, table: &Table, columns: u32, goal: Goal, at: &mut Sta
     if v == spec.variables.len() {
         return is_against(spec, table, columns, goal, at);
     }
-    at.codes.set(v, 0);
+    set_truth(spec, table, at, v, false);
     if find_least(spec, table, columns, goal, at, v + 1) {
         return true;
     }
-    at.codes.set(v, 1);
+    set_truth(spec, table, at, v, true);
     find_least(spec, table, columns, goal, at, v + 1)
 }
 
@@ -127,4 +154,53 @@ fn make_goals(alloc: Global, columns: u32) -> Result<Items<Goal>, NoMemory>
     push_all_pairs(&mut goals, columns)?;
     goals.push(Goal::Cover)?;
     Ok(goals)
+}
+
+/// A state in which each variable is false.
+fn false_state(alloc: Global, spec: &Spec, table: &Table) -> Result<State, NoMemory>
+    requires { IsJudged (data_of spec.now) table.now }
+    ensures { IfOk result (λ at. IsTyped (data_of spec.now) at.codes) }
+{
+    let mut codes = Items::new(alloc);
+    for _ in 0..spec.variables.len() {
+        codes.push(0)?;
+    }
+    Ok(State { codes })
+}
+
+/// The first of the goals that a state is against, which this state then is.
+fn find_violated(
+    spec: &Spec,
+    table: &Table,
+    columns: u32,
+    goals: &[Goal],
+    at: &mut State,
+) -> Option<Goal>
+    requires judged { IsJudged (data_of spec.now) table.now }
+    requires typed { IsTyped (data_of spec.now) at.old.codes }
+    requires all { columns ≡ column_count table.now }
+    requires goals { All (IsGoal columns) goals.now }
+    ensures { first_violated (data_of spec.now) table.now goals.now ≡ option_map (λ goal. (goal, at.new.codes)) result }
+{
+    for goal in goals {
+        if find_least(spec, table, columns, *goal, at, 0) {
+            return Some(*goal);
+        }
+    }
+    None
+}
+
+/// The verdict on the table.
+#[tactic(auto, using(crate::proofs::Steps::goals_there))]
+pub(crate) fn judge(alloc: Global, spec: &Spec, table: &Table) -> Result<Verdict, NoMemory>
+    requires { IsJudged (data_of spec.now) table.now }
+    ensures { IfOk result (IsVerdict (data_of spec.now) table.now) }
+{
+    let columns = columns_of(spec, table);
+    let goals = make_goals(alloc, columns)?;
+    let mut at = false_state(alloc, spec, table)?;
+    match find_violated(spec, table, columns, goals.as_slice(), &mut at) {
+        Some(goal) => Ok(Verdict::No(goal, at)),
+        None => Ok(Verdict::Yes),
+    }
 }

@@ -3,6 +3,7 @@
 
 mod built;
 mod judge;
+mod report;
 mod status;
 mod verdict;
 

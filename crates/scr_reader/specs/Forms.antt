@@ -17,32 +17,42 @@ use Rattle.scr_reader.specs.declared.draft.Statement.TheVariants as st
 use Rattle.scr_reader.specs.declared.place.Place.{Place}
 use Rattle.scr_reader.specs.declared.place.Place.TheVariants as p
 use Rattle.scr_reader.specs.Words.{IsNatural}
-use Rattle.scr_reader.specs.Names.{Names, Int, KindOf, Value}
+use Rattle.scr_reader.specs.Names.{Names, Braced, Int, KindOf, Value}
 use Rattle.scr_reader.specs.Events.{event_of, Event, Cells, Sides}
 
 -- ---- what stands behind the first word of a line, to the line's end
 
+-- int .. int
+pub data Bounds : List Word → ℤ → ℤ → Type 0 where
+  bounds : {from mid : List Word} {lo hi : ℤ} → Int from lo (w.Sign s.Dots ∷ mid) → Int mid hi [] → Bounds from lo hi
+
 -- TYPE n = int .. int, or TYPE n = { n {, n} }
 pub data TypeRest : List Word → Statement → Type 0 where
-  range : {name : List ℕ} {from mid : List Word} {lo hi : ℤ} → Int from lo (w.Sign s.Dots ∷ mid) → Int mid hi []
-      → TypeRest (w.Name name ∷ w.Sign s.Equal ∷ from) (st.Range name lo hi)
-  labels : {name : List ℕ} {names : List (List ℕ)} {from : List Word} → Names from names (w.Sign s.CloseBrace ∷ [])
-      → TypeRest (w.Name name ∷ w.Sign s.Equal ∷ w.Sign s.OpenBrace ∷ from) (st.Labels name names)
+  range : {name : List ℕ} {from : List Word} {lo hi : ℤ} → Bounds from lo hi → TypeRest (w.Name name ∷ w.Sign s.Equal ∷ from) (st.Range name lo hi)
+  labels : {name : List ℕ} {names : List (List ℕ)} {from : List Word} → Braced from names [] → TypeRest (w.Name name ∷ w.Sign s.Equal ∷ from) (st.Labels name names)
 
 -- CONST n = int
 pub data ConstRest : List Word → List ℕ → ℤ → Type 0 where
   constant : {name : List ℕ} {from : List Word} {value : ℤ} → Int from value [] → ConstRest (w.Name name ∷ w.Sign s.Equal ∷ from) name value
 
+-- INIT val
+pub data Initial : List Word → DraftValue → Type 0 where
+  initial : {from : List Word} {init : DraftValue} → Value from init [] → Initial (w.Reserved k.Init ∷ from) init
+
+-- typ [INIT val]
+pub data Typed : List Word → DraftKind → Option DraftValue → Type 0 where
+  plain : {from : List Word} {kind : DraftKind} → KindOf from kind [] → Typed from kind None
+  with_init : {from mid : List Word} {kind : DraftKind} {init : DraftValue} → KindOf from kind mid → Initial mid init → Typed from kind (Some init)
+
 -- n : typ [INIT val]
 pub data VariableRest : List Word → List ℕ → DraftKind → Option DraftValue → Type 0 where
-  plain : {name : List ℕ} {from : List Word} {kind : DraftKind} → KindOf from kind [] → VariableRest (w.Name name ∷ w.Sign s.Colon ∷ from) name kind None
-  with_init : {name : List ℕ} {from mid : List Word} {kind : DraftKind} {init : DraftValue} → KindOf from kind (w.Reserved k.Init ∷ mid) → Value mid init []
-      → VariableRest (w.Name name ∷ w.Sign s.Colon ∷ from) name kind (Some init)
+  variable : {name : List ℕ} {from : List Word} {kind : DraftKind} {init : Option DraftValue} → Typed from kind init
+      → VariableRest (w.Name name ∷ w.Sign s.Colon ∷ from) name kind init
 
 -- MODECLASS n = { n {, n} } INIT n
 pub data ClassRest : List Word → List ℕ → List (List ℕ) → List ℕ → Type 0 where
-  class : {name first : List ℕ} {modes : List (List ℕ)} {from : List Word} → Names from modes (w.Sign s.CloseBrace ∷ w.Reserved k.Init ∷ w.Name first ∷ [])
-      → ClassRest (w.Name name ∷ w.Sign s.Equal ∷ w.Sign s.OpenBrace ∷ from) name modes first
+  class : {name first : List ℕ} {modes : List (List ℕ)} {from : List Word} → Braced from modes (w.Reserved k.Init ∷ w.Name first ∷ [])
+      → ClassRest (w.Name name ∷ w.Sign s.Equal ∷ from) name modes first
 
 -- CONDITION n [OVER n]
 pub data HeadRest : List Word → List ℕ → Option (List ℕ) → Type 0 where
@@ -101,7 +111,11 @@ pub data Form : Place → List Word → Statement → Place → Type 0 where
       → RowRest heading from modes cells → Form place (w.Reserved k.Row ∷ from) (st.Row modes cells) (p.Rows heading)
   values : {heading : Heading} {from : List Word} {sides : List DraftSide} → Sides from sides
       → Form (p.Rows heading) (w.Reserved k.Values ∷ from) (st.Values sides) p.Closed
-  from : {rest : List Word} {source target : List ℕ} {prims : List DraftPrim} → FromRest rest source target prims
-      → Form p.Transitions (w.Reserved k.From ∷ rest) (st.Transition source target (event_of prims)) p.Transitions
+  from_to : {from : List Word} {source target : List ℕ} {prims : List DraftPrim} → FromRest from source target prims
+      → Form p.Transitions (w.Reserved k.From ∷ from) (st.Transition source target (event_of prims)) p.Transitions
   end : {place : Place} → may_end place ≡ true → Form place (w.Reserved k.End ∷ []) st.End p.Tables
   finish : {place : Place} → is_between place ≡ true → Form place (w.Reserved k.Finish ∷ []) st.Finish p.After
+
+-- the words have no form here
+abbrev pub NoForm : Place → List Word → Type 0
+NoForm place from = (statement : Statement) (next : Place) → Form place from statement next → ⊥

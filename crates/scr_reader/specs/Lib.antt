@@ -5,4 +5,5 @@ pub mod Conds
 pub mod Events
 pub mod Forms
 pub mod Limits
+pub mod Faults
 pub mod Text

@@ -91,9 +91,13 @@ abbrev pub is_cell_within : DraftCell → Bool
 is_cell_within (cell.Cond d) = is_cond_within d
 is_cell_within (cell.Event e) = list_all is_prim_within e.prims
 
--- at most 64 names in a list, at most 8,192 values in a range, and each side within its limits
+-- at most 8,192 values
+abbrev pub is_range_within : ℤ → ℤ → Bool
+is_range_within lo hi = int_le (hi -ℤ lo) (pos 8191)
+
+-- at most 64 names in a list, a range within its limit, and each side within its limits
 abbrev pub is_statement_within : Statement → Bool
-is_statement_within (st.Range name lo hi) = int_le (hi -ℤ lo) (pos 8191)
+is_statement_within (st.Range name lo hi) = is_range_within lo hi
 is_statement_within (st.Labels name names) = nat_le (length names) 64
 is_statement_within (st.Class name modes first) = nat_le (length modes) 64
 is_statement_within (st.Row modes cells) = nat_le (length modes) 64 && list_all is_cell_within cells

@@ -17,6 +17,10 @@ pub data Names : List Word → List (List ℕ) → List Word → Type 0 where
   name_comma : {name : List ℕ} {names : List (List ℕ)} {from rest : List Word} → Names from names rest
       → Names (w.Name name ∷ w.Sign s.Comma ∷ from) (name ∷ names) rest
 
+-- '{' n {, n} '}'
+pub data Braced : List Word → List (List ℕ) → List Word → Type 0 where
+  braced : {names : List (List ℕ)} {from rest : List Word} → Names from names (w.Sign s.CloseBrace ∷ rest) → Braced (w.Sign s.OpenBrace ∷ from) names rest
+
 -- [ '-' ] number
 pub data Int : List Word → ℤ → List Word → Type 0 where
   plain_int : {n : ℤ} {rest : List Word} → IsNatural n → Int (w.Number n ∷ rest) n rest

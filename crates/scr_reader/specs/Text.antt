@@ -15,8 +15,10 @@ use Rattle.scr_reader.specs.declared.place.TextKind.{TextKind}
 use Rattle.scr_reader.specs.declared.place.TextKind.TheVariants as k
 use Rattle.scr_reader.specs.declared.place.TextFault.{TextFault}
 use Rattle.scr_reader.specs.declared.place.TextFault.TheVariants as fault
+use Rattle.scr_reader.specs.declared.place.LineFault.{LineFault}
+use Rattle.scr_reader.specs.declared.place.LineFault.TheVariants as why
 use Rattle.scr_reader.specs.Words.{words}
-use Rattle.scr_reader.specs.Forms.{Form}
+use Rattle.scr_reader.specs.Forms.{Form, NoForm}
 use Rattle.scr_reader.specs.Limits.{is_line_within, is_statement_within, counted, is_count_within, no_counts}
 
 -- ---- a line
@@ -35,25 +37,33 @@ pub data LineReads : Position → List ℕ → Option Statement → Position →
   says : {position next : Position} {line : List ℕ} {tokens : List Token} {statement : Statement} → IsLexed line tokens
       → Says position (words tokens) statement next → LineReads position line (Some statement) next
 
--- the words have no form here
-abbrev pub NoForm : Place → List Word → Type 0
-NoForm place from = (statement : Statement) (next : Place) → Form place from statement next → ⊥
-
 -- the words have a form here, but the statement or the lines so far pass a limit
 abbrev pub PassesLimit : Position → List Word → Type 0
 PassesLimit position from = (statement : Statement) × (next : Place) × Form position.place from statement next
     × ((is_statement_within statement ≡ false) ⊎ (is_count_within (counted position.counts statement) ≡ false))
 
--- The first step that refuses the line: its length, a byte, a piece that is no token, a token too large, what its words
--- open, no form, a statement or a count too large.
+-- the first step that refuses the words: what they open, no form, a statement or a count too large
+abbrev pub WordsRefuse : Position → List Word → TextKind → Type 0
+WordsRefuse position from k.Byte = ⊥
+WordsRefuse position from k.Syntax = (is_line_within from ≡ true) × NoForm position.place from
+WordsRefuse position from k.Limit = (is_line_within from ≡ false) ⊎ ((is_line_within from ≡ true) × PassesLimit position from)
+WordsRefuse position from k.End = ⊥
+
+-- the line has tokens, and these are refused
+abbrev pub TokensRefuse : Position → List ℕ → TextKind → Type 0
+TokensRefuse position line kind = (tokens : List Token) × IsLexed line tokens × (0 < length tokens) × WordsRefuse position (words tokens) kind
+
+-- the first step that refuses the line: its length, a byte, a piece that is no token, a token too large, or its words
 abbrev pub LineRefuses : Position → List ℕ → TextKind → Type 0
 LineRefuses position line k.Byte = Refuses line f.Byte
-LineRefuses position line k.Syntax = Refuses line f.Syntax
-    ⊎ ((tokens : List Token) × IsLexed line tokens × (0 < length tokens) × (is_line_within (words tokens) ≡ true) × NoForm position.place (words tokens))
-LineRefuses position line k.Limit = Refuses line f.Limit
-    ⊎ ((tokens : List Token) × IsLexed line tokens × ((is_line_within (words tokens) ≡ false)
-    ⊎ ((is_line_within (words tokens) ≡ true) × PassesLimit position (words tokens))))
+LineRefuses position line k.Syntax = Refuses line f.Syntax ⊎ TokensRefuse position line k.Syntax
+LineRefuses position line k.Limit = Refuses line f.Limit ⊎ TokensRefuse position line k.Limit
 LineRefuses position line k.End = ⊥
+
+-- a fault of this kind, where the line or its words are refused so; memory may run out anywhere
+abbrev pub Fails : (TextKind → Type 0) → LineFault → Type 0
+Fails refuses why.NoMemory = Unit {0}
+Fails refuses (why.Refused kind) = refuses kind
 
 -- ---- the lines
 
@@ -82,12 +92,21 @@ pub data Refused : Position → ℕ → List (List ℕ) → ℕ → TextKind →
 abbrev pub start : Position
 start = record { place = Start; counts = no_counts }
 
+-- the lines are these statements, to FINISH
+pub record LinesRead (ls : List (List ℕ)) (draft : List Numbered) : Type 0 where
+  pub last : Position
+  pub finished : last.place ≡ After
+  pub lines : Reads start 1 ls draft last
+
 -- the text is these statements
 pub record TextReads (text : List ℕ) (draft : List Numbered) : Type 0 where
   pub size : length text ≤ 1048576
-  pub last : Position
-  pub finished : last.place ≡ After
-  pub lines : Reads start 1 (lines text) draft last
+  pub lines : LinesRead (lines text) draft
+
+-- the lines are refused with this fault; memory may run out at any lines
+abbrev pub LinesFail : List (List ℕ) → TextFault → Type 0
+LinesFail ls fault.NoMemory = Unit {0}
+LinesFail ls (fault.Refused line kind) = Refused start 1 ls line kind
 
 -- the text is refused with this fault; memory may run out at any text
 abbrev pub TextRefuses : List ℕ → TextFault → Type 0

@@ -20,6 +20,10 @@ NotAt word from = (rest : List Word) → from ≡ word ∷ rest → ⊥
 abbrev pub NotAtName : List Word → Type 0
 NotAtName from = (name : List ℕ) (rest : List Word) → from ≡ w.Name name ∷ rest → ⊥
 
+-- the words do not begin with a name and this word behind it
+abbrev pub NotAtNameBefore : Word → List Word → Type 0
+NotAtNameBefore word from = (name : List ℕ) (rest : List Word) → from ≡ w.Name name ∷ word ∷ rest → ⊥
+
 -- the number of a token is not negative
 abbrev pub IsNatural : ℤ → Type 0
 IsNatural n = pos 0 ≤ℤ n

@@ -1,12 +1,25 @@
 //! Reads the text of a specification: from bytes to statements with their lines.
 #![tactic(auto)]
 
+mod cell;
+mod cond;
+mod declaration;
 mod draft;
+mod event;
+mod fault;
+mod form;
+mod limit;
+mod line;
+mod names;
 mod place;
+mod side;
 mod step;
+mod table;
+mod text;
 
 pub use draft::{
     Draft, DraftCell, DraftChange, DraftCond, DraftEvent, DraftItem, DraftKind, DraftOperand,
     DraftPrim, DraftSide, DraftValue, Numbered, Statement,
 };
 pub use place::{Counts, Place, Position, TextFault, TextKind};
+pub use text::{one_outcome, read};

@@ -1,7 +1,8 @@
 //! Places in a text, and why a text is refused.
 
+use crate::fault::FormFault;
 use scr_spec::Heading;
-use scr_text::NoMemory;
+use scr_text::{LexFault, NoMemory};
 use std::alloc::{AllocError, AllocFailed};
 
 /// Where in the text a line stands, which decides the forms that it may have.
@@ -42,6 +43,43 @@ pub enum TextKind {
     Limit,
     Syntax,
     End,
+}
+
+/// Why a line is not read.
+#[derive(Clone, Copy, Debug, PartialEq, Eq)]
+pub(crate) enum LineFault {
+    Refused(TextKind),
+    NoMemory,
+}
+
+impl From<FormFault> for LineFault {
+    ghost use Rattle.std.specs.Prelude.{◌≡◌};
+    ghost use Rattle.scr_reader.specs.Faults.{of_form};
+
+    ghost from_gives = { λ form fault. fault ≡ of_form form };
+
+    fn from(fault: FormFault) -> LineFault {
+        match fault {
+            FormFault::Refused => LineFault::Refused(TextKind::Syntax),
+            FormFault::NoMemory => LineFault::NoMemory,
+        }
+    }
+}
+
+impl From<LexFault> for LineFault {
+    ghost use Rattle.std.specs.Prelude.{◌≡◌};
+    ghost use Rattle.scr_reader.specs.Faults.{of_lex};
+
+    ghost from_gives = { λ lex fault. fault ≡ of_lex lex };
+
+    fn from(fault: LexFault) -> LineFault {
+        match fault {
+            LexFault::Limit => LineFault::Refused(TextKind::Limit),
+            LexFault::Byte => LineFault::Refused(TextKind::Byte),
+            LexFault::Syntax => LineFault::Refused(TextKind::Syntax),
+            LexFault::NoMemory => LineFault::NoMemory,
+        }
+    }
 }
 
 /// Why a text is not read: its first faulty line, from 1, and what is wrong with it. A text that

@@ -1,8 +1,8 @@
 //! One token at a time.
 
-ghost use Rattle.std.specs.Prelude.{◌≡◌, [], ◌∷◌, MatchOption};
+ghost use Rattle.std.specs.Prelude.{◌≡◌, ℕ, ◌↔◌, List, [], ◌∷◌, IsTrue, MatchOption};
 ghost use Rattle.scr_text.specs.declared.word.Relation.{Relation};
-ghost use Rattle.scr_reader.specs.Words.{words, sign_of, NotAt, NotAtName, NotAtNumber, NotAtKeyword, NotAtRelation, IsNatural};
+ghost use Rattle.scr_reader.specs.Words.{words, sign_of, NotAt, NotAtName, NotAtNameBefore, NotAtNumber, NotAtKeyword, NotAtRelation, IsNatural};
 
 use scr_text::{Keyword, Name, Relation, Sign, Token, Word};
 
@@ -65,6 +65,40 @@ pub(crate) fn take_number(tokens: &[Token]) -> Option<(i64, &[Token])>
         Some((Word::Number(n), rest)) => { if *n >= 0 { Some((*n, rest)) } else { None } }
         _ => None,
     }
+}
+
+/// The name in front, and the tokens behind the sign that follows it.
+pub(crate) fn take_name_before(tokens: &[Token], sign: Sign) -> Option<(&Name, &[Token])>
+    ensures { MatchOption result (NotAtNameBefore (Word.Sign sign) (words tokens.now))
+        (λ x. words tokens.now ≡ Word.Name x.0.now ∷ Word.Sign sign ∷ words x.1.now) }
+{
+    let (name, rest) = take_name(tokens)?;
+    let rest = past_sign(rest, sign)?;
+    Some((name, rest))
+}
+
+/// Whether no token is left.
+pub(crate) fn is_end(tokens: &[Token]) -> bool
+    ensures { IsTrue result ↔ (words tokens.now ≡ []) }
+{
+    first_word(tokens).is_none()
+}
+
+/// The name, where no other token stands there.
+pub(crate) fn lone_name(tokens: &[Token]) -> Option<&Name>
+    ensures { MatchOption result ((name : List ℕ) → words tokens.now ≡ Word.Name name ∷ [] → ⊥) (λ name. words tokens.now ≡ Word.Name name.now ∷ []) }
+{
+    let (name, rest) = take_name(tokens)?;
+    if is_end(rest) { Some(name) } else { None }
+}
+
+/// The name behind this reserved word, where no other token stands there.
+pub(crate) fn lone_name_behind(tokens: &[Token], keyword: Keyword) -> Option<&Name>
+    ensures { MatchOption result ((name : List ℕ) → words tokens.now ≡ Word.Reserved keyword ∷ Word.Name name ∷ [] → ⊥)
+        (λ name. words tokens.now ≡ Word.Reserved keyword ∷ Word.Name name.now ∷ []) }
+{
+    let rest = past_keyword(tokens, keyword)?;
+    lone_name(rest)
 }
 
 fn relation_of(sign: Sign) -> Option<Relation>

@@ -10,22 +10,27 @@ use Rattle.scr_spec.specs.declared.cond.Cond.TheOpen as layer
 use Rattle.scr_spec.specs.Meaning.{Codes, is_true, truth_step}
 use Rattle.scr_spec.specs.Over.{is_cond_over, over_step}
 
-list_any-map : {X Y : Type 0} (p : X → Bool) (h : Y → X) (ys : List Y) → list_any p (map h ys) ≡ list_any (λ y. p (h y)) ys
+-- some mapped member passes where some member does under the map
+pub list_any-map : {X Y : Type 0} (p : X → Bool) (h : Y → X) (ys : List Y) → list_any p (map h ys) ≡ list_any (λ y. p (h y)) ys
 list_any-map p h [] = refl
 list_any-map p h (y ∷ ys) = ap (λ b. p (h y) || b) (list_any-map p h ys)
 
+-- AND is true where each member is
 pub is_true-And : (spec : Data) (at : Codes) (cs : List Cond) → is_true spec at (And cs) ≡ list_all (is_true spec at) cs
 is_true-And spec at cs =
     ap (is_true spec at) (sym (rolls-And cs)) ∙ fold-roll-Cond Bool (truth_step spec at) (layer.And cs) ∙ list_all-map (λ t. t) (is_true spec at) cs
 
+-- OR is true where some member is
 pub is_true-Or : (spec : Data) (at : Codes) (cs : List Cond) → is_true spec at (Or cs) ≡ list_any (is_true spec at) cs
 is_true-Or spec at cs =
     ap (is_true spec at) (sym (rolls-Or cs)) ∙ fold-roll-Cond Bool (truth_step spec at) (layer.Or cs) ∙ list_any-map (λ t. t) (is_true spec at) cs
 
+-- AND is over a specification where each member is
 pub is_cond_over-And : (spec : Data) (cs : List Cond) → is_cond_over spec (And cs) ≡ list_all (is_cond_over spec) cs
 is_cond_over-And spec cs =
     ap (is_cond_over spec) (sym (rolls-And cs)) ∙ fold-roll-Cond Bool (over_step spec) (layer.And cs) ∙ list_all-map (λ t. t) (is_cond_over spec) cs
 
+-- OR is where each member is
 pub is_cond_over-Or : (spec : Data) (cs : List Cond) → is_cond_over spec (Or cs) ≡ list_all (is_cond_over spec) cs
 is_cond_over-Or spec cs =
     ap (is_cond_over spec) (sym (rolls-Or cs)) ∙ fold-roll-Cond Bool (over_step spec) (layer.Or cs) ∙ list_all-map (λ t. t) (is_cond_over spec) cs

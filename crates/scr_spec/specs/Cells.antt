@@ -49,10 +49,12 @@ abbrev pub is_cell_over : Data → Cell → Bool
 is_cell_over spec (Cond c) = is_cond_over spec c
 is_cell_over spec (Event e) = is_event_over spec e
 
+-- the class, if there is one, is a variable of the specification
 abbrev pub is_class_over : Data → Option ℕ → Bool
 is_class_over spec None = true
 is_class_over spec (Some v) = nat_lt v (length spec.variables)
 
+-- each cell is one over the specification, and each mode and target is narrow
 abbrev pub is_row_over : Data → Row → Bool
 is_row_over spec row = list_all (is_cell_over spec) row.cells && list_all is_narrow row.modes && list_all is_narrow row.targets
 

@@ -15,6 +15,7 @@ use Rattle.scr_spec.specs.Meaning.{Codes, code_of}
 abbrev pub list_domain : List (List ℕ) → Domain
 list_domain names = record { lo = pos 0; hi = pos (length names) -ℤ pos 1 }
 
+-- the codes of a declared type
 abbrev pub shape_domain : Shape → Domain
 shape_domain (Range d) = d
 shape_domain (Labels names) = list_domain names
@@ -23,6 +24,7 @@ shape_domain (Labels names) = list_domain names
 abbrev pub no_domain : Domain
 no_domain = record { lo = pos 0; hi = pos 0 }
 
+-- the codes of a kind of variable
 abbrev pub kind_domain : List TypeDef → Kind → Domain
 kind_domain types Boolean = record { lo = pos 0; hi = pos 1 }
 kind_domain types (Named k) = option_map_or (λ t. shape_domain t.shape) (slice_get types k) no_domain

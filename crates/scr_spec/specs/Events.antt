@@ -31,16 +31,19 @@ prim_holds spec old new p = change_holds spec old new p.change && guard_holds sp
 abbrev pub event_true : Data → Codes → Codes → Event → Bool
 event_true spec old new e = list_any (prim_holds spec old new) e.prims
 
+-- what the change names is of the specification
 abbrev pub is_change_over : Data → Change → Bool
 is_change_over spec (Becomes c) = is_cond_over spec c
 is_change_over spec (Ceases c) = is_cond_over spec c
 is_change_over spec (Changes v) = nat_lt v (length spec.variables)
 is_change_over spec Never = true
 
+-- the condition behind WHEN is one over the specification
 abbrev pub is_guard_over : Data → Option Cond → Bool
 is_guard_over spec None = true
 is_guard_over spec (Some d) = is_cond_over spec d
 
+-- the change and the condition behind WHEN are
 abbrev pub is_prim_over : Data → Primitive → Bool
 is_prim_over spec p = is_change_over spec p.change && is_guard_over spec p.guard
 

@@ -21,6 +21,7 @@ Codes = List ℤ
 abbrev pub code_of : Codes → ℕ → ℤ
 code_of codes v = slice_index_or codes v (pos 0)
 
+-- FALSE and TRUE are 0 and 1
 abbrev pub truth_code : Bool → ℤ
 truth_code true = pos 1
 truth_code false = pos 0

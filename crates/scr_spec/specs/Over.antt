@@ -33,6 +33,7 @@ operand_bound spec (Label owner code) = unsigned_abs code
 operand_bound spec (Read v) = variable_bound spec v
 operand_bound spec (Primed v) = variable_bound spec v
 
+-- the absolute factor times the bound of the operand
 abbrev pub item_bound : Data → Item → ℕ
 item_bound spec item = unsigned_abs item.factor * operand_bound spec item.operand
 

@@ -1,4 +1,4 @@
-use Rattle.std.proofs.Common.{◌≡◌, map, drop, ◌++◌}
+use Rattle.std.proofs.Common.{◌≡◌, drop, ◌++◌}
 use Rattle.std.specs.Prelude.{option_map}
 use Rattle.scr_cli.specs.Built as spec
 use Rattle.scr_cli.proofs.built.cells_of.Given as goal

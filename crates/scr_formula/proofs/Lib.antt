@@ -1,0 +1,9 @@
+pub mod Terms
+pub mod Products
+pub mod Totals
+pub mod FormulaLaws
+pub mod ConditionLaws
+pub mod SideTruth
+pub mod ConditionTruth
+pub mod SideMeasure
+pub mod ConditionMeasure
