@@ -1,0 +1,11 @@
+pub mod Trees
+pub mod Distinct
+pub mod Closed
+pub mod Canonical
+pub mod OneKey
+pub mod KeyLemmas
+pub mod RunLemmas
+pub mod Recalled
+pub mod NewStore
+pub mod Made
+pub mod Faults

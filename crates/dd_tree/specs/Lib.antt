@@ -1,0 +1,5 @@
+pub mod Tree
+pub mod Ordered
+pub mod Function
+pub mod Added
+pub mod Canonical
