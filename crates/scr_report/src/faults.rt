@@ -1,0 +1,29 @@
+//! The lines on a text that is refused.
+ghost use Rattle.std.specs.Prelude.{◌≡◌, ◌++◌, MatchResult};
+ghost use Rattle.scr_report.specs.Faults as text;
+
+use scr_reader::TextKind;
+use scr_text::NoMemory;
+
+fn text_kind_word(kind: TextKind) -> &'static str
+    ensures { result.now ≡ text.text_kind_word kind }
+{
+    match kind {
+        TextKind::Byte => "byte",
+        TextKind::Limit => "limit",
+        TextKind::Syntax => "syntax",
+        TextKind::End => "end",
+    }
+}
+
+/// Appends the line on a text whose line has no tokens, passes a limit, has no form at its place,
+/// or is missing: `line L: KIND`. After a fault `out` is unchanged.
+pub fn push_text_fault(out: &mut Vec<u8>, line: u32, kind: TextKind) -> Result<(), NoMemory>
+    ensures { MatchResult result (λ _. out.new.items ≡ out.old.items ++ text.text_fault line kind)
+        (λ _. out.new.items ≡ out.old.items) }
+{
+    let word = text_kind_word(kind);
+    let text = format!(in *out.allocator(); "line {line}: {word}\n")?;
+    out.extend_from_slice(text.as_bytes())?;
+    Ok(())
+}
