@@ -3,6 +3,7 @@ use Rattle.std.proofs.Common.{◌≡◌, ℕ, ◌-◌, ◌<◌, ◌≤◌, true,
 use Rattle.std.specs.Prelude.{nat_lt, nat_le, slice_get}
 use Rattle.std.specs.Option.{option_map_or}
 use Rattle.std.specs.List.{list_all}
+use Rattle.std.proofs.lemmas.Bool.{and_parts}
 use Rattle.std.proofs.lemmas.Bool.Decides.{nat_tests}
 use Rattle.scr_spec.proofs.Lookup.{all_get}
 use Rattle.scr_spec.specs.Data.{Data}
@@ -13,7 +14,6 @@ use Rattle.scr_spec.specs.declared.table.Row.{Row}
 use Rattle.scr_spec.specs.declared.table.Table.{Table}
 use Rattle.scr_cli.specs.Verdict.{column_count}
 use Rattle.scr_cli.specs.Search.{IsJudged}
-use Rattle.scr_cli.proofs.Sound.{and_right}
 
 there_by : (r : Option Row) (k : ℕ) → k < option_map_or (λ row. length row.cells) r 0 → IsTrue (option_map_or (λ row. nat_lt k (length row.cells)) r false)
 there_by None k h = absurd (omega arith)
@@ -35,7 +35,7 @@ few_width Modes = omega arith
 -- there are at most 64 columns
 pub few_columns : (spec : Data) (table : Table) → IsJudged spec table → column_count table ≤ 64
 few_columns spec table judged =
-    let small : is_small table ≡ true = and_right _ (is_small table) judged.over in
+    let small : is_small table ≡ true = (and_parts _ (is_small table) judged.over).1 in
     let width = few_width table.heading in
-    let few = few_by table.rows (slice_get table.rows 0) (greatest_width table.heading) refl (and_right (nat_le (length table.rows) 64) _ small) in
+    let few = few_by table.rows (slice_get table.rows 0) (greatest_width table.heading) refl (and_parts (nat_le (length table.rows) 64) _ small).1 in
     omega arith

@@ -3,6 +3,7 @@ use Rattle.std.proofs.Common.{◌≡◌, inl, inr, ℕ, ◌<◌, zero, suc, ℤ,
 use Rattle.std.specs.Prelude.{is_none, slice_get, option_map}
 use Rattle.std.specs.Option.{option_or}
 use Rattle.std.specs.List.{All, list_all}
+use Rattle.std.proofs.lemmas.Bool.{and_parts}
 use Rattle.std.proofs.lemmas.Int.{ints}
 use Rattle.std.proofs.lemmas.List.Elements.{All-cons}
 use Rattle.scr_spec.specs.declared.state.State.{State}
@@ -16,11 +17,10 @@ use Rattle.scr_spec.specs.declared.table.Table.{Table}
 use Rattle.scr_cli.specs.declared.verdict.Goal.{Goal}
 use Rattle.scr_cli.specs.declared.verdict.Verdict.{Verdict}
 use Rattle.scr_cli.specs.declared.verdict.Verdict.TheVariants.{Yes, No}
-use Rattle.scr_cli.specs.Built.{is_plain, is_boolean}
+use Rattle.scr_cli.specs.Judgeable.{is_plain, is_boolean}
 use Rattle.scr_cli.specs.Verdict.{violates, goals_of, column_count, NoState, IsLeast, NoneViolated, IsFirstViolated, IsVerdict}
 use Rattle.scr_cli.specs.Search.{least, first_violated}
 use Rattle.scr_cli.proofs.Least.{IsBit, AreBits, Outcome, outcome}
-use Rattle.scr_cli.proofs.Sound.{and_left, and_right}
 
 -- ---- typed states of Booleans
 
@@ -53,8 +53,8 @@ bits_at (c ∷ cs) h (suc v) k = bits_at cs h.1 v (omega arith)
 -- each variable is there, and a Boolean
 plain_at : (xs : List Variable) → list_all is_plain xs ≡ true → (v : ℕ) → v < length xs → (x : Variable) × (slice_get xs v ≡ Some x) × (is_boolean x.kind ≡ true)
 plain_at [] h v k = absurd (omega arith)
-plain_at (x ∷ xs) h zero k = (x, refl, and_left (is_boolean x.kind) (is_none x.bound) (and_left (is_plain x) (list_all is_plain xs) h))
-plain_at (x ∷ xs) h (suc v) k = let p = plain_at xs (and_right (is_plain x) (list_all is_plain xs) h) v (omega arith) in (p.0, get_suc x xs v ∙ p.1, p.2)
+plain_at (x ∷ xs) h zero k = (x, refl, (and_parts (is_boolean x.kind) (is_none x.bound) (and_parts (is_plain x) (list_all is_plain xs) h).0).0)
+plain_at (x ∷ xs) h (suc v) k = let p = plain_at xs ((and_parts (is_plain x) (list_all is_plain xs) h).1) v (omega arith) in (p.0, get_suc x xs v ∙ p.1, p.2)
   where
     get_suc : (x : Variable) (xs : List Variable) (v : ℕ) → slice_get (x ∷ xs) (suc v) ≡ slice_get xs v
     get_suc x xs v = refl

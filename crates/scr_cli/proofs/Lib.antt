@@ -1,5 +1,4 @@
-pub mod Conditions
-pub mod Sound
+pub mod Plain
 pub mod Least
 pub mod Judged
 pub mod Columns

@@ -12,7 +12,7 @@ use Rattle.scr_spec.specs.Domains.{IsTyped}
 use Rattle.scr_spec.specs.Cells.{holds_in}
 use Rattle.scr_spec.specs.declared.table.Table.{Table}
 use Rattle.scr_cli.specs.declared.verdict.Goal.{Goal}
-use Rattle.scr_cli.specs.Built.{is_plain}
+use Rattle.scr_cli.specs.Judgeable.{is_plain}
 use Rattle.scr_cli.specs.declared.verdict.Goal.TheVariants.{Disjoint, Cover}
 use Rattle.scr_cli.specs.Verdict.{none_from, violates, pairs_from, goals_of}
 use Rattle.scr_cli.specs.Search.{least, first_violated, IsJudged, IsGoal}

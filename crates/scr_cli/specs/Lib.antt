@@ -1,5 +1,5 @@
 pub mod Number
-pub mod Built
+pub mod Judgeable
 pub mod Verdict
 pub mod Search
 pub mod Report

@@ -1,5 +1,5 @@
 -- The search that finds verdicts: the least state of Booleans that passes a test, and the first goal with one.
-use Rattle.std.specs.Prelude.{◌≡◌, ℕ, ◌<◌, ◌≤◌, zero, suc, ◌==◌, pos, Bool, true, ◌&&◌, if◌then◌else◌, IsTrue, List, [], ◌∷◌, ◌++◌, length, Option, Some, None, option_map}
+use Rattle.std.specs.Prelude.{◌≡◌, ℕ, ◌<◌, ◌≤◌, zero, suc, pos, Bool, true, if◌then◌else◌, IsTrue, List, [], ◌∷◌, ◌++◌, length, Option, Some, None, option_map}
 use Rattle.std.specs.Option.{option_or}
 use Rattle.std.specs.List.{list_all}
 use Rattle.scr_spec.specs.Data.{Data}
@@ -8,7 +8,7 @@ use Rattle.scr_spec.specs.Cells.{is_table_over}
 use Rattle.scr_spec.specs.declared.table.Table.{Table}
 use Rattle.scr_cli.specs.declared.verdict.Goal.{Goal}
 use Rattle.scr_cli.specs.declared.verdict.Goal.TheVariants.{Disjoint, Cover}
-use Rattle.scr_cli.specs.Built.{is_plain}
+use Rattle.scr_cli.specs.Judgeable.{is_plain}
 use Rattle.scr_cli.specs.Verdict.{violates}
 
 -- the least list that begins with the prefix, goes on with so many zeros and ones, and passes the test
@@ -21,10 +21,6 @@ abbrev pub first_violated : Data → Table → List Goal → Option (Goal × Cod
 first_violated spec table [] = None
 first_violated spec table (goal ∷ goals) =
     option_or (option_map (λ at. (goal, at)) (least (violates spec table goal) (length spec.variables) [])) (first_violated spec table goals)
-
--- Booleans alone, with one table
-abbrev pub is_judgeable : Data → Bool
-is_judgeable spec = list_all is_plain spec.variables && length spec.tables == 1
 
 -- the table is one of Booleans
 pub record IsJudged (spec : Data) (table : Table) : Type 0 where

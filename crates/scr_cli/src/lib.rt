@@ -2,11 +2,11 @@
 #![tactic(auto)]
 
 mod answer;
-mod built;
 mod check;
 mod form;
 mod job;
 mod judge;
+mod judgeable;
 mod load;
 mod report;
 mod status;
