@@ -1,6 +1,6 @@
 -- What the statements of every text that is read keep: each is one that the words of a line can say, within the limits,
 -- they stand in their places from SPECIFICATION to FINISH, and no more lines of a kind come than may.
-use Rattle.std.specs.Prelude.{◌≡◌, ℕ, ℤ, pos, int_le, nat_le, Bool, true, false, ◌&&◌, if◌then◌else◌, List, [], ◌∷◌, length, Option, Some, None}
+use Rattle.std.specs.Prelude.{◌≡◌, ℕ, pos, int_le, nat_le, Bool, true, false, ◌&&◌, if◌then◌else◌, List, [], ◌∷◌, length, Option, Some, None}
 use Rattle.std.specs.Option.{option_map_or, option_and_then}
 use Rattle.std.specs.List.{list_all}
 use Rattle.scr_spec.specs.Types.{is_narrow}
