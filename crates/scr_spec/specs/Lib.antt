@@ -1,9 +1,12 @@
 pub mod Data
 pub mod Shown
+pub mod Roles
+pub mod Sorts
 pub mod Meaning
 pub mod Types
 pub mod Domains
 pub mod Over
+pub mod Typed
 pub mod Events
 pub mod Cells
 pub mod Names
