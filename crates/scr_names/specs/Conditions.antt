@@ -1,6 +1,6 @@
 -- Conditions: the first unknown name, whether they are well typed and within the bound of a side, and what they
 -- resolve to.
-use Rattle.std.specs.Prelude.{Bool, true, false, ◌&&◌, List, [], ◌∷◌, Option}
+use Rattle.std.specs.Prelude.{Bool, false, ◌&&◌, List, [], ◌∷◌, Option}
 use Rattle.std.specs.Option.{option_or}
 use Rattle.std.specs.List.{list_all}
 use Rattle.scr_spec.specs.declared.cond.Operand.{Operand}

@@ -9,8 +9,6 @@ use Rattle.scr_spec.specs.declared.cond.Owner.{Owner}
 use Rattle.scr_spec.specs.declared.cond.Owner.TheVariants as owner
 use Rattle.scr_spec.specs.declared.sort.Sort.{Sort}
 use Rattle.scr_spec.specs.declared.sort.Sort.TheVariants as sort
-use Rattle.scr_spec.specs.declared.spec.Domain.{Domain}
-use Rattle.scr_spec.specs.declared.spec.Shape.{Shape}
 use Rattle.scr_spec.specs.declared.spec.Shape.TheVariants as shape
 use Rattle.scr_spec.specs.declared.spec.Kind.{Kind}
 use Rattle.scr_spec.specs.declared.spec.Kind.TheVariants as kind
@@ -224,7 +222,7 @@ with_variable known r n drawn init = record known {
 
 -- the place of a name in a list
 abbrev pub place_of : List Name → Name → ℕ
-place_of names n = unwrap_or (position (bytes_eq n) names) 0
+place_of names n = unwrap_or (position (λ other. bytes_eq other n) names) 0
 
 abbrev pub with_class : Known → Name → List Name → Name → Known
 with_class known n modes init = record known {

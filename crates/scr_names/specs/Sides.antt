@@ -1,7 +1,7 @@
 -- Sides: the first unknown name, the sort, the bound, the value, and what they resolve to.
-use Rattle.std.specs.Prelude.{ℕ, ℤ, pos, Bool, true, false, not, ◌&&◌, ◌||◌, nat_le, List, [], map, Option, Some, None, unwrap_or}
+use Rattle.std.specs.Prelude.{ℕ, ℤ, Bool, true, false, not, ◌&&◌, ◌||◌, nat_le, List, [], map, Option, Some, None, unwrap_or}
 use Rattle.std.specs.Option.{option_map, option_map_or, option_and_then}
-use Rattle.std.specs.List.{list_all, list_any}
+use Rattle.std.specs.List.{list_any}
 use Rattle.scr_spec.specs.declared.cond.Operand.{Operand}
 use Rattle.scr_spec.specs.declared.cond.Operand.TheVariants as made
 use Rattle.scr_spec.specs.declared.cond.Item.{Item}
@@ -13,7 +13,7 @@ use Rattle.scr_spec.specs.declared.table.Heading.TheVariants as heading
 use Rattle.scr_spec.specs.declared.spec.Constant.{Constant}
 use Rattle.scr_spec.specs.Domains.{is_within}
 use Rattle.scr_spec.specs.Meaning.{side_value}
-use Rattle.scr_spec.specs.Over.{side_bound}
+use Rattle.scr_spec.specs.Over.{item_bound, side_bound}
 use Rattle.scr_spec.specs.Sorts.{is_sort, variable_sort, variable_range}
 use Rattle.scr_spec.specs.Typed.{operand_sort, sum_sort}
 use Rattle.scr_spec.specs.Types.{is_narrow}
@@ -49,9 +49,12 @@ operand_named known (Truth b) = Some (made.Truth b)
 operand_named known (Plain n) = option_and_then operand_meant (meant known n)
 operand_named known (Primed n) = option_map made.Primed (variable_named known n)
 
--- a name that stands for no operand counts as One
+-- what stands for no operand counts as One
+abbrev pub or_one : Option Operand → Operand
+or_one operand = unwrap_or operand made.One
+
 abbrev pub operand_of : Known → DraftOperand → Operand
-operand_of known operand = unwrap_or (operand_named known operand) made.One
+operand_of known operand = or_one (operand_named known operand)
 
 abbrev pub item_of : Known → DraftItem → Item
 item_of known item = record { factor = item.factor; operand = operand_of known item.operand }
@@ -75,6 +78,9 @@ abbrev pub draft_sort : Known → DraftSide → Option Sort
 draft_sort known side = sum_sort draft_factor (draft_item_sort known) side.items
 
 -- ---- bounds
+
+abbrev pub draft_item_bound : Known → DraftItem → ℕ
+draft_item_bound known item = item_bound (seen known) (item_of known item)
 
 -- the bound is at most 2,000,000,000
 abbrev pub is_narrow_side : Known → DraftSide → Bool
@@ -119,14 +125,14 @@ is_variable_item known item = is_variable_operand known item.operand
 abbrev pub has_variable : Known → DraftSide → Bool
 has_variable known side = list_any (is_variable_item known) side.items
 
--- the value of a side without variables, for which the codes of a state are of no matter
-abbrev pub constant_side_value : Known → DraftSide → ℤ
-constant_side_value known side = side_value (seen known) [] [] (side_of known side)
+-- the sum of items without variables, for which the codes of a state are of no matter
+abbrev pub items_value : Known → List DraftItem → ℤ
+items_value known items = side_value (seen known) [] [] (record { items = map (item_of known) items })
 
 -- a value without a variable's name is in the domain of the table's variable, where that is an integer
 abbrev pub is_value_within : Known → ℕ → DraftSide → Bool
 is_value_within known v side =
-    option_map_or (λ d. has_variable known side || is_within d (constant_side_value known side)) (variable_range known.types known.variables v) true
+    option_map_or (λ d. has_variable known side || is_within d (items_value known side.items)) (variable_range known.types known.variables v) true
 
 -- ---- what the limits on a text give
 

@@ -2,10 +2,19 @@
 //! stand for.
 #![tactic(auto)]
 
+mod added;
+mod bound;
+mod cond;
+mod declared;
+mod event;
+mod first;
 mod known;
 mod meaning;
 mod names;
+mod side;
+mod value;
 
+pub use first::{is_among, unless};
 pub use known::Known;
 pub use meaning::Meaning;
 pub use names::Names;

@@ -1,5 +1,4 @@
-use Rattle.std.proofs.Common.{◌≡◌, ◌∙◌, ap, sym, true, false, is_some}
-use Rattle.std.specs.Map.{lookup}
+use Rattle.std.proofs.Common.{◌∙◌, ap, sym}
 use Rattle.scr_names.specs.Names.{with_name}
 use Rattle.scr_names.proofs.Found.{named, kept}
 use Rattle.scr_names.proofs.names.Names.add.Goals as goal
