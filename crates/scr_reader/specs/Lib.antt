@@ -7,3 +7,4 @@ pub mod Forms
 pub mod Limits
 pub mod Faults
 pub mod Text
+pub mod Readable

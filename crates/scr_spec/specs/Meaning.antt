@@ -1,9 +1,9 @@
 -- The value of a side and the truth of a condition at a state (TOSEM 1996).
-use Rattle.std.specs.Prelude.{ℕ, ℤ, pos, ◌+ℤ◌, ◌*ℤ◌, Bool, true, false, not, List, fold, slice_get, slice_index_or, int_lt, int_le}
-use Rattle.std.specs.Option.{option_map_or}
+use Rattle.std.specs.Prelude.{ℕ, ℤ, pos, ◌+ℤ◌, ◌*ℤ◌, Bool, true, false, not, List, fold, slice_index_or, int_lt, int_le}
 use Rattle.std.specs.List.{list_all, list_any}
 use Rattle.std.specs.Ordering.{int_eq}
 use Rattle.scr_spec.specs.Data.{Data}
+use Rattle.scr_spec.specs.Sorts.{constant_at}
 use Rattle.scr_spec.specs.declared.cond.Operand.{Operand}
 use Rattle.scr_spec.specs.declared.cond.Operand.TheVariants.{One, Truth as Flag, Constant, Label, Variable, Primed}
 use Rattle.scr_spec.specs.declared.cond.Item.{Item}
@@ -28,7 +28,7 @@ truth_code false = pos 0
 
 -- the value of a constant
 abbrev pub constant_value : Data → ℕ → ℤ
-constant_value spec k = option_map_or (λ c. c.value) (slice_get spec.constants k) (pos 0)
+constant_value spec k = constant_at spec.constants k
 
 -- unprimed names are read in the old state, primed ones in the new
 abbrev pub operand_value : Data → Codes → Codes → Operand → ℤ

@@ -5,11 +5,10 @@ use Rattle.scr_spec.specs.declared.spec.Domain.{Domain}
 use Rattle.scr_spec.specs.declared.spec.Shape.{Shape}
 use Rattle.scr_spec.specs.declared.spec.Shape.TheVariants.{Range, Labels}
 use Rattle.scr_spec.specs.declared.spec.TypeDef.{TypeDef}
-use Rattle.scr_spec.specs.declared.spec.Role.{Role}
-use Rattle.scr_spec.specs.declared.spec.Role.TheVariants.{Monitored, Mode, Term, Controlled}
 use Rattle.scr_spec.specs.declared.spec.Kind.{Kind}
 use Rattle.scr_spec.specs.declared.spec.Kind.TheVariants.{Boolean, Named, Modes}
 use Rattle.scr_spec.specs.declared.spec.Variable.{Variable}
+use Rattle.scr_spec.specs.Roles.{is_monitored_role}
 
 -- an integer of a specification is from -1,000,000 to 1,000,000
 abbrev pub is_narrow : ℤ → Bool
@@ -59,13 +58,6 @@ abbrev pub is_integer_kind : List TypeDef → Kind → Bool
 is_integer_kind types Boolean = false
 is_integer_kind types (Named k) = option_map_or (λ t. is_range t.shape) (slice_get types k) false
 is_integer_kind types (Modes names) = false
-
--- its values come from outside
-abbrev pub is_monitored_role : Role → Bool
-is_monitored_role Monitored = true
-is_monitored_role Mode = false
-is_monitored_role Term = false
-is_monitored_role Controlled = false
 
 -- a bound is from 1 to 1,000,000, at a monitored variable whose values are integers
 abbrev pub is_bound_sound : List TypeDef → Variable → Bool

@@ -2,11 +2,19 @@
 #![tactic(auto)]
 
 mod cond;
+mod law;
+mod numbers;
+mod sort;
 mod spec;
 mod state;
 mod table;
 
 pub use cond::{Cond, Expr, Item, Operand, Owner};
+pub use law::bounded_depth;
+pub use numbers::{
+    constant_value, kind_range, kind_sort, type_range, type_sort, variable_range, variable_sort,
+};
+pub use sort::Sort;
 pub use spec::{Constant, Domain, Kind, Role, Shape, Spec, TypeDef, Variable};
 pub use state::{Input, State};
 pub use table::{Cell, Change, Event, Heading, Primitive, Row, Table};

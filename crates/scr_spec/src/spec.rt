@@ -75,6 +75,41 @@ pub struct Spec {
     pub ghost sound: { IsSound (record { name = name; types = types; constants = constants; variables = variables; tables = tables }) },
 }
 
+impl Role {
+    ghost use Rattle.scr_spec.specs.Roles.{is_monitored_role, is_class_role, is_computed_role};
+
+    /// Whether the values come from outside. Every other variable is a dependent one.
+    pub fn is_monitored(&self) -> bool
+        ensures { result ≡ is_monitored_role self.now }
+    {
+        match self {
+            Role::Monitored => true,
+            _ => false,
+        }
+    }
+
+    /// Whether it is a mode class.
+    pub fn is_class(&self) -> bool
+        ensures { result ≡ is_class_role self.now }
+    {
+        match self {
+            Role::Mode => true,
+            _ => false,
+        }
+    }
+
+    /// Whether a condition table or an event table gives the values.
+    pub fn is_computed(&self) -> bool
+        ensures { result ≡ is_computed_role self.now }
+    {
+        match self {
+            Role::Term => true,
+            Role::Controlled => true,
+            _ => false,
+        }
+    }
+}
+
 impl Domain {
     /// The places in a list of names.
     fn of_list(names: &[Name]) -> Domain
@@ -107,6 +142,17 @@ impl Domain {
             Kind::Named(k) => Domain::of_shape(&types[*k].shape),
             Kind::Modes(names) => Domain::of_list(names.as_slice()),
         }
+    }
+}
+
+impl Domain {
+    ghost use Rattle.scr_spec.specs.Domains.{is_within};
+
+    /// Whether the code is from `lo` to `hi`.
+    pub fn contains(&self, code: i64) -> bool
+        ensures { result ≡ is_within self.now code }
+    {
+        self.lo <= code && code <= self.hi
     }
 }
 

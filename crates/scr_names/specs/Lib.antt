@@ -1,0 +1,7 @@
+pub mod Names
+pub mod First
+pub mod Meanings
+pub mod Declarations
+pub mod Sides
+pub mod Conditions
+pub mod Events
