@@ -271,3 +271,8 @@ pub record Spells (text : List ℕ) (spec : Data) : Type 0 where
 -- the text spells none
 abbrev pub Unbuilt : List ℕ → Type 0
 Unbuilt text = (spec : Data) → Spells text spec → ⊥
+
+-- a text spells one specification at most, and none where it is unbuilt
+pub record OneSpelling : Type 0 where
+  pub once : (text : List ℕ) (a b : Data) → Spells text a → Spells text b → a ≡ b
+  pub apart : (text : List ℕ) (spec : Data) → Spells text spec → Unbuilt text → ⊥

@@ -71,9 +71,10 @@ fn dispatch<S: Shelf, K: Sink>(
 ///   appended nothing.
 /// - `read_cause`, `write_cause`: a fault comes only where the shelf, or the sink, failed in this call.
 /// - `usage`: `Usage` comes only from words that have no form.
-/// - `no_file`, `no_read`: words that name no file begin none.
-/// - `succeeds`: on a steady shelf that holds each file of the words, `ReadFault` never comes. So no
-///   other file is begun.
+/// - `no_file`, `no_read`: for words that name no file the shelf's count of failures is as before,
+///   and `ReadFault` never comes.
+/// - `succeeds`: on a steady shelf that holds each file of the words, `ReadFault` never comes. So a
+///   failure at any other file cannot be its cause.
 ///
 /// `NoMemory` may come at any growth of memory.
 pub fn run<S: Shelf, K: Sink>(alloc: Global, words: &[String], shelf: &mut S, out: &mut K) -> Status
