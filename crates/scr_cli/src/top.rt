@@ -13,7 +13,7 @@ use crate::status::{Status, Stop};
 use scr_io::{Shelf, Sink};
 use std::alloc::Global;
 
-/// The line on words that have no form. No file is begun.
+/// Writes the usage line, for words that have no form. No file is begun.
 fn usage<S: Shelf, K: Sink>(shelf: &S, out: &mut K) -> Result<Status, Stop>
     ensures answered { IfOk result (Answered (S.contents shelf.now) (K.written out.old) (K.written out.new)
         UsageAnswers) }
@@ -30,7 +30,7 @@ fn usage<S: Shelf, K: Sink>(shelf: &S, out: &mut K) -> Result<Status, Stop>
     Ok(Status::Usage)
 }
 
-/// Does what the words ask. A fault ends it.
+/// Does what the words ask, up to the first fault.
 fn dispatch<S: Shelf, K: Sink>(
     alloc: Global,
     words: &[String],
