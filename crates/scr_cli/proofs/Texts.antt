@@ -37,7 +37,7 @@ answers_report bytes status text draft spec (Ok x) reads built report = reports 
 answers_report bytes status text draft spec (Err e) reads built report = tt
 
 -- a text spells one specification at most
-spelled_once : (text : List ℕ) (a b : Data) → Spells text a → Spells text b → a ≡ b
+pub spelled_once : (text : List ℕ) (a b : Data) → Spells text a → Spells text b → a ≡ b
 spelled_once text a b first second =
     (let same : first.draft ≡ second.draft = one_outcome.once text first.draft second.draft first.reads second.reads in
     let made : spec_of (statements second.draft) ≡ Some a = ap (λ d. spec_of (statements d)) (sym same) ∙ first.built in

@@ -3,7 +3,7 @@ ghost use Rattle.std.specs.Prelude.{◌≡◌, ◌≢◌, ◌⊎◌, None, IfOk,
 ghost use Rattle.scr_io.specs.Outside.{HasRisen};
 ghost use Rattle.scr_cli.specs.Ends.{Answered, Stopped, Ended, is_own};
 ghost use Rattle.scr_cli.specs.Form.{form_of};
-ghost use Rattle.scr_cli.specs.Answers.{Answers, UsageAnswers, HoldsFiles, begins_none, reads_first};
+ghost use Rattle.scr_cli.specs.Answers.{Answers, OneAnswer, UsageAnswers, HoldsFiles, begins_none, reads_first};
 
 use crate::check::Check;
 use crate::form::{Form, parse};
@@ -100,3 +100,8 @@ pub fn run<S: Shelf, K: Sink>(alloc: Global, words: &[String], shelf: &mut S, ou
         Err(Stop::NoMemory) => Status::NoMemory,
     }
 }
+
+/// Words and files have one answer, and never none.
+pub fn one_answer()
+    ensures { OneAnswer }
+{}
