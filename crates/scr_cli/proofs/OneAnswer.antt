@@ -1,6 +1,5 @@
 -- Words and files have one answer.
-use Rattle.std.proofs.Common.{◌≡◌, ℕ, List, [], ◌∷◌, Option, None, Some, refl, sym, subst, ◌∙◌}
-use Rattle.scr_spec.specs.Data.{Data}
+use Rattle.std.proofs.Common.{◌≡◌, ℕ, List, [], Option, None, Some, refl, sym, subst, ◌∙◌}
 use Rattle.scr_cli.specs.declared.status.Status.{Status}
 use Rattle.scr_cli.specs.declared.form.Form.{Form}
 use Rattle.scr_cli.specs.declared.form.Form.TheVariants as form

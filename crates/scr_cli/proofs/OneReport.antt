@@ -1,6 +1,6 @@
 -- A specification has one verdict, and so one report.
-use Rattle.std.proofs.Common.{◌≡◌, ℕ, ℤ, Bool, true, false, ◌&&◌, ◌||◌, List, [], ◌∷◌, ◌++◌, length, refl, sym, ap, ap₂, subst, ◌∙◌, arith}
-use Rattle.std.specs.Prelude.{int_lt, IsTrue}
+use Rattle.std.proofs.Common.{◌≡◌, ℕ, ℤ, Bool, true, ◌&&◌, ◌||◌, List, [], ◌∷◌, ◌++◌, length, refl, sym, ap, ap₂, subst, ◌∙◌, arith}
+use Rattle.std.specs.Prelude.{int_lt}
 use Rattle.std.specs.Ordering.{int_eq}
 use Rattle.std.specs.List.{All}
 use Rattle.std.proofs.lemmas.Int.{ints}
@@ -13,7 +13,7 @@ use Rattle.scr_cli.specs.declared.status.Status.{Status}
 use Rattle.scr_cli.specs.declared.verdict.Goal.{Goal}
 use Rattle.scr_cli.specs.declared.verdict.Verdict.{Verdict}
 use Rattle.scr_cli.specs.declared.verdict.Verdict.TheVariants.{Yes, No}
-use Rattle.scr_cli.specs.Verdict.{comes_first, violates, goals_of, column_count, NoState, IsLeast, NoneViolated, IsFirstViolated, IsVerdict}
+use Rattle.scr_cli.specs.Verdict.{comes_first, violates, NoState, IsLeast, NoneViolated, IsFirstViolated, IsVerdict}
 use Rattle.scr_cli.specs.Report.{report_text, verdict_status}
 use Rattle.scr_cli.specs.Check.{IsReport}
 
