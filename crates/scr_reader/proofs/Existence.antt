@@ -15,7 +15,7 @@ use Rattle.scr_reader.specs.declared.place.TextKind.{TextKind}
 use Rattle.scr_reader.specs.declared.place.TextKind.TheVariants as k
 use Rattle.scr_reader.specs.declared.place.TextFault.TheVariants as fault
 use Rattle.scr_reader.specs.Words.{words}
-use Rattle.scr_reader.specs.Forms.{Form, NoForm}
+use Rattle.scr_reader.specs.Forms.{Form}
 use Rattle.scr_reader.specs.Limits.{is_line_within, is_statement_within, counted, is_count_within}
 use Rattle.scr_reader.specs.Text.{LineReads, blank, says, LineRefuses, Reads, no_line, line_more, Refused, here, later, unfinished, numbered, start, TextReads, TextRefuses}
 
@@ -49,8 +49,16 @@ by_statement position line tokens lexed some line_within statement next form fal
 by_words : (position : Position) (line : List ℕ) (tokens : List Token) → IsLexed line tokens → 0 < length tokens
     → (b : Bool) → is_line_within (words tokens) ≡ b → NotRead position line → NotRefused position line → ⊥
 by_words position line tokens lexed some true e unread unrefused =
-    unrefused k.Syntax (inr (tokens, lexed, some, (e, λ statement next form.
-        by_statement position line tokens lexed some e statement next form (is_statement_within statement) refl unread unrefused)))
+    unrefused k.Syntax (inr (
+      tokens,
+      lexed,
+      some,
+      (
+        e,
+        λ statement next form.
+            by_statement position line tokens lexed some e statement next form (is_statement_within statement) refl unread unrefused,
+      ),
+    ))
 by_words position line tokens lexed some false e unread unrefused = unrefused k.Limit (inr (tokens, lexed, some, inl e))
 
 by_tokens : (position : Position) (line : List ℕ) (tokens : List Token) → IsLexed line tokens → NotRead position line → NotRefused position line → ⊥
@@ -97,8 +105,8 @@ some_lines : (position : Position) (n : ℕ) (ls : List (List ℕ))
 some_lines position n [] unread unrefused = by_place position n (is_after position.place) unread unrefused
 some_lines position n (line ∷ more) unread unrefused = by_length position line (nat_le (length line) 4096) refl
     (λ statement next says_so. some_lines next (n + 1) more
-        (λ draft last reads e. unread (numbered n statement ++ draft) last (line_more says_so reads) e)
-        (λ m kind refused. unrefused m kind (later says_so refused)))
+    (λ draft last reads e. unread (numbered n statement ++ draft) last (line_more says_so reads) e)
+    (λ m kind refused. unrefused m kind (later says_so refused)))
     (λ kind refused. unrefused n kind (here refused))
 
 -- ---- a text
