@@ -3,4 +3,4 @@
 
 mod faults;
 
-pub use faults::push_text_fault;
+pub use faults::{push_text_fault, push_type_fault};
