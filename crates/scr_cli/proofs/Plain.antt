@@ -15,3 +15,11 @@ pub plain-Or : (variables : List Variable) (cs : List Cond) → is_plain_cond va
 plain-Or variables cs = ap (is_plain_cond variables) (sym (rolls-Or cs)) ∙ fold-roll-Cond Bool (plain_step variables) (layer.Or cs) ∙ list_all-map (λ t. t) (is_plain_cond variables) cs
 
 pub ruleset plain_laws = (plain-And, plain-Or)
+
+-- ---- what a specification is whose table is judged so far
+
+pub judgeable_plain : (spec : Data) → is_judgeable spec ≡ true → list_all is_plain spec.variables ≡ true
+judgeable_plain spec e = grind (arith, and_parts)
+
+pub judgeable_one : (spec : Data) → is_judgeable spec ≡ true → (length spec.tables == 1) ≡ true
+judgeable_one spec e = grind (arith, and_parts)

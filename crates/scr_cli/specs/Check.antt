@@ -1,11 +1,13 @@
 -- What `check` answers.
-use Rattle.std.specs.Prelude.{◌≡◌, ℕ, List, [], ◌∷◌, Option, None, Some, codes}
+use Rattle.std.specs.Prelude.{◌≡◌, ℕ, true, false, List, [], ◌∷◌, Option, None, Some, codes}
 use Rattle.scr_spec.specs.Data.{Data}
 use Rattle.scr_spec.specs.declared.table.Table.{Table}
+use Rattle.scr_types.specs.Texts.{Spells, Refusal, IsRefused}
+use Rattle.scr_report.specs.Faults.{refusal_text}
 use Rattle.scr_cli.specs.declared.status.Status.{Status}
 use Rattle.scr_cli.specs.declared.status.Status.TheVariants.{SpecRefused, ReadFault}
 use Rattle.scr_cli.specs.declared.verdict.Verdict.{Verdict}
-use Rattle.scr_cli.specs.Built.{Spells, Unbuilt}
+use Rattle.scr_cli.specs.Judgeable.{is_judgeable}
 use Rattle.scr_cli.specs.Verdict.{IsVerdict}
 use Rattle.scr_cli.specs.Report.{report_text, verdict_status}
 use Rattle.scr_cli.specs.Ends.{Answer}
@@ -22,10 +24,13 @@ pub record IsReport (spec : Data) (bytes : List ℕ) (status : Status) : Type 0 
   pub text : bytes ≡ report_text spec table verdict
   pub ends : status ≡ verdict_status verdict
 
--- of a text: the report on the specification that it spells, or the one line where it is not built
+-- of a text: the report on the specification that it spells, one line where that is not judged so far, or the line on
+-- what is wrong with the text
 pub data ChecksText : List ℕ → List ℕ → Status → Type 0 where
-  reports : {text bytes : List ℕ} {status : Status} (spec : Data) → Spells text spec → IsReport spec bytes status → ChecksText text bytes status
-  unbuilt : {text : List ℕ} → Unbuilt text → ChecksText text unbuilt_text SpecRefused
+  reports : {text bytes : List ℕ} {status : Status} (spec : Data) → Spells text spec → is_judgeable spec ≡ true → IsReport spec bytes status
+      → ChecksText text bytes status
+  unbuilt : {text : List ℕ} (spec : Data) → Spells text spec → is_judgeable spec ≡ false → ChecksText text unbuilt_text SpecRefused
+  refused : {text : List ℕ} (refusal : Refusal) → IsRefused text refusal → ChecksText text (refusal_text refusal) SpecRefused
 
 -- of a file, if it is there
 abbrev pub Checks : Option (List ℕ) → List ℕ → Status → Type 0

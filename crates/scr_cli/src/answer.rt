@@ -2,9 +2,10 @@
 ghost use Rattle.std.specs.Prelude.{◌≡◌, ℕ, List, [], ◌∷◌, IfOk, IsTrue, true};
 ghost use Rattle.scr_spec.specs.Shown.{data_of};
 ghost use Rattle.scr_reader.specs.Text.{TextReads};
+ghost use Rattle.scr_reader.specs.Readable.{IsReadable};
 ghost use Rattle.scr_types.specs.Texts.{Spells};
 ghost use Rattle.scr_report.specs.Faults.{text_fault, type_fault};
-ghost use Rattle.scr_cli.specs.Judgeable as spec;
+ghost use Rattle.scr_cli.specs.Judgeable as test;
 ghost use Rattle.scr_cli.specs.Search.{IsJudged};
 ghost use Rattle.scr_cli.specs.Report.{report_text, verdict_status};
 ghost use Rattle.scr_cli.specs.Verdict.{IsVerdict};
@@ -60,4 +61,63 @@ fn ill_typed(
     let mut out = Vec::new(alloc);
     push_type_fault(&mut out, line, kind, name)?;
     Ok((out, Status::SpecRefused))
+}
+
+/// The one table.
+#[tactic(auto, using(scr_spec::proofs::Lookup::lookup_laws, crate::proofs::Plain::judgeable_laws))]
+fn first_table(spec: &Spec) -> &Table
+    requires { test.is_judgeable (data_of spec.now) ≡ true }
+    ensures only { spec.now.tables ≡ result.now ∷ [] }
+    ensures judged { IsJudged (data_of spec.now) result.now }
+{
+    &spec.tables.as_slice()[0]
+}
+
+/// The report on the one table of a specification.
+fn report(alloc: Global, spec: &Spec) -> Result<(Vec<u8>, Status), NoMemory>
+    requires { test.is_judgeable (data_of spec.now) ≡ true }
+    ensures report { IfOk result (λ r. IsReport (data_of spec.now) r.0.items r.1) }
+    ensures status { IfOk result (λ r. IsTrue (is_own r.1)) }
+{
+    let table = first_table(spec);
+    let verdict = judge(alloc, spec, table)?;
+    let mut out = Vec::new(alloc);
+    push_report(&mut out, spec, table, &verdict)?;
+    Ok((out, verdict_status(&verdict)))
+}
+
+/// What `check` writes for a text that spells this specification.
+fn of_spec(alloc: Global, spec: &Spec) -> Result<(Vec<u8>, Status), NoMemory>
+    ensures exact { (text : List ℕ) → Spells text (data_of spec.now) → IfOk result (λ r. ChecksText text r.0.items r.1) }
+    ensures status { IfOk result (λ r. IsTrue (is_own r.1)) }
+{
+    if is_judgeable(spec) {
+        return report(alloc, spec);
+    }
+    unbuilt(alloc)
+}
+
+/// What `check` writes for a text that is these statements.
+fn of_draft(alloc: Global, draft: &Draft) -> Result<(Vec<u8>, Status), NoMemory>
+    requires { IsReadable draft.now.statements }
+    ensures exact { (text : List ℕ) → TextReads text draft.now.statements → IfOk result (λ r. ChecksText text r.0.items r.1) }
+    ensures status { IfOk result (λ r. IsTrue (is_own r.1)) }
+{
+    match resolve(alloc, draft) {
+        Ok(spec) => of_spec(alloc, &spec),
+        Err(TypeFault::Refused(line, kind, name)) => ill_typed(alloc, line, kind, &name),
+        Err(TypeFault::NoMemory) => Err(NoMemory),
+    }
+}
+
+/// What `check` writes for a text, and how it ends.
+pub(crate) fn answer(alloc: Global, text: &[u8]) -> Result<(Vec<u8>, Status), NoMemory>
+    ensures exact { IfOk result (λ r. ChecksText text.now r.0.items r.1) }
+    ensures status { IfOk result (λ r. IsTrue (is_own r.1)) }
+{
+    match read(alloc, text) {
+        Ok(draft) => of_draft(alloc, &draft),
+        Err(TextFault::Refused(line, kind)) => refused(alloc, line, kind),
+        Err(TextFault::NoMemory) => Err(NoMemory),
+    }
 }

@@ -1,9 +1,10 @@
 //! The command `check`: the verdict on the table of a specification.
 
-use crate::answer::answer;
+use crate::answer::{answer, refused};
 use crate::job::Job;
 use crate::load::{Loaded, TEXT_LIMIT};
 use crate::status::Status;
+use scr_reader::TextKind;
 use scr_text::NoMemory;
 use std::alloc::Global;
 
@@ -25,10 +26,7 @@ impl Job for Check {
     fn answer(&self, alloc: Global, file: Loaded) -> Result<(Vec<u8>, Status), NoMemory> {
         match file {
             Loaded::Whole(text) => answer(alloc, text.as_slice()),
-            Loaded::TooLong => {
-                let line = Vec::from_slice(alloc, b"line 0: unbuilt\n")?;
-                Ok((line, Status::SpecRefused))
-            }
+            Loaded::TooLong => refused(alloc, 0, TextKind::Limit),
         }
     }
 }

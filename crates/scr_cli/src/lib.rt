@@ -13,7 +13,6 @@ mod status;
 mod top;
 mod verdict;
 
-pub use built::one_spelling;
 pub use form::Form;
 pub use status::Status;
 pub use top::{one_answer, run};
