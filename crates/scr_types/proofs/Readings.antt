@@ -18,16 +18,16 @@ use Rattle.scr_types.proofs.Outcome.{one_resolution}
 -- ---- lines spell something or are refused
 
 by_fault : (known : Known) (line : Numbered) (more : List Numbered) (r : Option Fault) → fault_in known line.statement ≡ r
-    → (((last : Known) → Resolves (after known line.statement) more last → ⊥) → ((n : ℕ) (kind : TypeKind) (name : Name) → Refused (after known line.statement) more n kind name → ⊥) → ⊥)
-    → ((last : Known) → Resolves known (line ∷ more) last → ⊥) → ((n : ℕ) (kind : TypeKind) (name : Name) → Refused known (line ∷ more) n kind name → ⊥) → ⊥
-by_fault known line more None e rest unresolved unrefused = rest (λ last d. unresolved last (one_more e d)) (λ n kind name d. unrefused n kind name (later e d))
-by_fault known line more (Some fault) e rest unresolved unrefused = unrefused line.line fault.0 fault.1 (here e)
+    → (((last : Known) → Resolves (after known line.statement) more last → ⊥) → ((n : ℕ) (which : TypeKind) (name : Name) → Refused (after known line.statement) more n which name → ⊥) → ⊥)
+    → ((last : Known) → Resolves known (line ∷ more) last → ⊥) → ((n : ℕ) (which : TypeKind) (name : Name) → Refused known (line ∷ more) n which name → ⊥) → ⊥
+by_fault known line more None e rest unspelled unrefused = rest (λ last d. unspelled last (one_more e d)) (λ n which name d. unrefused n which name (later e d))
+by_fault known line more (Some fault) e rest unspelled unrefused = unrefused line.line fault.0 fault.1 (here e)
 
 some_lines : (known : Known) (lines : List Numbered) → ((last : Known) → Resolves known lines last → ⊥)
-    → ((n : ℕ) (kind : TypeKind) (name : Name) → Refused known lines n kind name → ⊥) → ⊥
-some_lines known [] unresolved unrefused = unresolved known no_more
-some_lines known (line ∷ more) unresolved unrefused =
-    by_fault known line more (fault_in known line.statement) refl (some_lines (after known line.statement) more) unresolved unrefused
+    → ((n : ℕ) (which : TypeKind) (name : Name) → Refused known lines n which name → ⊥) → ⊥
+some_lines known [] unspelled unrefused = unspelled known no_more
+some_lines known (line ∷ more) unspelled unrefused =
+    by_fault known line more (fault_in known line.statement) refl (some_lines (after known line.statement) more) unspelled unrefused
 
 -- ---- texts
 
@@ -41,27 +41,27 @@ spelled_once text a b s t =
     one_resolution.once t.draft a b first t.resolves
 
 refused_once : (text : List ℕ) (r s : Refusal) → IsRefused text r → IsRefused text s → r ≡ s
-refused_once text (unread m j) (unread n kind) h k = let same = one_outcome.one_fault text m n j kind h k in ap₂ unread same.0 same.1
-refused_once text (unread m j) (unresolved n kind b) h (draft, reads, refused) = absurd (one_outcome.apart text draft m j reads h)
-refused_once text (unresolved m j a) (unread n kind) (draft, reads, refused) k = absurd (one_outcome.apart text draft n kind reads k)
-refused_once text (unresolved m j a) (unresolved n kind b) (draft, reads, refused) (other, also, second) =
+refused_once text (unread m j) (unread n which) h k = let same = one_outcome.one_fault text m n j which h k in ap₂ unread same.0 same.1
+refused_once text (unread m j) (unresolved n which b) h (draft, reads, refused) = absurd (one_outcome.apart text draft m j reads h)
+refused_once text (unresolved m j a) (unread n which) (draft, reads, refused) k = absurd (one_outcome.apart text draft n which reads k)
+refused_once text (unresolved m j a) (unresolved n which b) (draft, reads, refused) (other, also, second) =
     let same = same_draft text draft other reads also in
     let first : DraftRefuses other (type_fault.Refused m j a) = subst (λ d. DraftRefuses d (type_fault.Refused m j a)) same refused in
-    let one = one_resolution.one_fault other m n j kind a b first second in
-    ap₂ (λ m j. unresolved m j a) one.0 one.1.0 ∙ ap (unresolved n kind) one.1.1
+    let one = one_resolution.one_fault other m n j which a b first second in
+    ap₂ (λ m j. unresolved m j a) one.0 one.1 ∙ ap (unresolved n which) one.2
 
 apart : (text : List ℕ) (spec : Data) (r : Refusal) → Spells text spec → IsRefused text r → ⊥
-apart text spec (unread line kind) s h = one_outcome.apart text s.draft line kind s.reads h
-apart text spec (unresolved line kind name) s (draft, reads, refused) =
+apart text spec (unread line which) s h = one_outcome.apart text s.draft line which s.reads h
+apart text spec (unresolved line which name) s (draft, reads, refused) =
     let same = same_draft text s.draft draft s.reads reads in
-    one_resolution.apart draft spec line kind name (subst (λ d. DraftResolves d spec) same s.resolves) refused
+    one_resolution.apart draft spec line which name (subst (λ d. DraftResolves d spec) same s.resolves) refused
 
 some : (text : List ℕ) → ((spec : Data) → Spells text spec → ⊥) → ((r : Refusal) → IsRefused text r → ⊥) → ⊥
 some text unspelled unrefused = one_outcome.some text
     (λ draft reads. some_lines nothing draft
         (λ last resolves. unspelled (seen last) (record { draft = draft; reads = reads; resolves = record { last = last; resolves = resolves; parts = refl } }))
-        (λ n kind name refused. unrefused (unresolved n kind name) (draft, reads, refused)))
-    (λ line kind refused. unrefused (unread line kind) refused)
+        (λ n which name refused. unrefused (unresolved n which name) (draft, reads, refused)))
+    (λ line which refused. unrefused (unread line which) refused)
 
 pub one_reading : OneReading
 one_reading = record {

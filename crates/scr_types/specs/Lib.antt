@@ -2,3 +2,4 @@ pub mod Tables
 pub mod Built
 pub mod Lines
 pub mod Draft
+pub mod Texts

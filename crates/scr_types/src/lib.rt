@@ -2,5 +2,7 @@
 #![tactic(auto)]
 
 mod fault;
+mod reading;
 
 pub use fault::{TypeFault, TypeKind};
+pub use reading::one_reading;
