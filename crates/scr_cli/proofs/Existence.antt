@@ -1,19 +1,21 @@
 -- Each file has an answer.
-use Rattle.std.proofs.Common.{◌≡◌, ℕ, Bool, true, false, ◌==◌, List, [], ◌∷◌, length, Option, None, Some, refl, arith}
-use Rattle.std.proofs.lemmas.Bool.{and_parts}
+use Rattle.std.proofs.Common.{◌≡◌, inl, ℕ, Bool, true, false, ◌==◌, List, [], ◌∷◌, length, Option, None, Some, Result, Ok, Err, refl, arith}
+use Rattle.std.specs.Prelude.{IfOk}
+use Rattle.scr_text.specs.declared.memory.NoMemory.{NoMemory}
 use Rattle.std.proofs.lemmas.Bool.Decides.{nat_tests}
-use Rattle.std.specs.List.{list_all}
 use Rattle.scr_spec.specs.Data.{Data}
 use Rattle.scr_spec.specs.declared.table.Table.{Table}
 use Rattle.scr_reader.specs.declared.place.TextKind.TheVariants as kind
-use Rattle.scr_types.specs.Texts.{Spells, Refusal, unread}
+use Rattle.scr_types.specs.Texts.{Spells, unread}
 use Rattle.scr_types.proofs.Readings.{one_reading}
 use Rattle.scr_report.specs.Faults.{refusal_text, text_fault}
+use Rattle.scr_cli.specs.declared.status.Status.{Status}
 use Rattle.scr_cli.specs.declared.status.Status.TheVariants.{SpecRefused}
+use Rattle.scr_cli.specs.declared.load.Loaded.{Loaded}
 use Rattle.scr_cli.specs.declared.load.Loaded.TheVariants.{TooLong}
 use Rattle.scr_cli.specs.declared.load.TheConstants.{TEXT_LIMIT}
 use Rattle.scr_cli.specs.Load.{IsLoaded}
-use Rattle.scr_cli.specs.Judgeable.{is_plain, is_judgeable}
+use Rattle.scr_cli.specs.Judgeable.{is_judgeable}
 use Rattle.scr_cli.specs.Check.{ChecksText, reports, unbuilt, refused, Checks}
 use Rattle.scr_cli.specs.Report.{report_text, verdict_status}
 use Rattle.scr_cli.specs.Ends.{IsFront}
@@ -49,3 +51,8 @@ some_check (Some text) none = some_text text none
 -- a text above the limit is refused as a whole
 pub too_long_refused : (held : Option (List ℕ)) → IsLoaded TEXT_LIMIT held TooLong → Checks held (text_fault 0 kind.Limit) SpecRefused
 too_long_refused held (text, is, long) = rw is (refused {text = text} (unread 0 kind.Limit) (inl (long, refl, refl)))
+
+pub answers_too_long : {X : Type 0} (bytes : X → List ℕ) (status : X → Status) (file : Loaded) (r : Result X NoMemory) → file ≡ TooLong → IfOk r (λ x. bytes x ≡ text_fault 0 kind.Limit)
+    → IfOk r (λ x. status x ≡ SpecRefused) → IfOk r (λ x. (held : Option (List ℕ)) → IsLoaded TEXT_LIMIT held file → Checks held (bytes x) (status x))
+answers_too_long bytes status file (Ok x) is same ends = λ held loaded. rw (same, ends) (too_long_refused held (rw is at loaded))
+answers_too_long bytes status file (Err e) is same ends = tt

@@ -4,7 +4,7 @@ use Rattle.std.specs.Prelude.{ℕ, ◌==◌, nat_le, Bool, true, false, not, ◌
 use Rattle.std.specs.Option.{option_map_or}
 use Rattle.std.specs.List.{list_all}
 use Rattle.scr_spec.specs.Data.{Data}
-use Rattle.scr_spec.specs.Types.{is_monitored_role}
+use Rattle.scr_spec.specs.Roles.{is_monitored_role}
 use Rattle.scr_spec.specs.declared.cond.Operand.{Operand}
 use Rattle.scr_spec.specs.declared.cond.Operand.TheVariants as operand
 use Rattle.scr_spec.specs.declared.cond.Expr.{Expr}

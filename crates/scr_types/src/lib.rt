@@ -3,6 +3,8 @@
 
 mod fault;
 mod reading;
+mod resolving;
 
 pub use fault::{TypeFault, TypeKind};
 pub use reading::one_reading;
+pub use resolving::resolve;

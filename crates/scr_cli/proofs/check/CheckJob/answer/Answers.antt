@@ -1,5 +1,6 @@
-use Rattle.scr_cli.proofs.Existence.{too_long_unbuilt}
+use Rattle.scr_cli.proofs.Existence.{answers_too_long}
 use Rattle.scr_cli.proofs.check.CheckJob.answer.Goals as goal
 
-pub returns-in_ok-line-in-TooLong-clause-exact : goal.returns-in_ok-line-in-TooLong-clause-exact
-returns-in_ok-line-in-TooLong-clause-exact c = λ held loaded. rw c.in_ok-line-in-TooLong.ensures.items (too_long_unbuilt held (rw c.in-TooLong.is at loaded))
+pub returns-in-TooLong-clause-exact : goal.returns-in-TooLong-clause-exact
+returns-in-TooLong-clause-exact c =
+    answers_too_long (λ x. x.0.items) (λ x. x.1) c.args.file c.refused.result c.in-TooLong.is c.refused.ensures.text c.refused.ensures.status
