@@ -43,7 +43,8 @@ pub(crate) fn is_inside(domain: Domain, code: i64) -> bool
 }
 
 impl Known {
-    fn variable_of(&self, name: &Name) -> Option<&Variable>
+    /// The variable of that name.
+    pub fn variable_of(&self, name: &Name) -> Option<&Variable>
         ensures { option_copied result ≡ spec.variable_of self.now name.now }
     {
         self.variables.get(self.variable_named(name)?)

@@ -104,12 +104,7 @@ pub(crate) fn bad_mode<'a>(known: &Known, names: &'a [Name]) -> Option<&'a Name>
     }
 }
 
-fn bad_change<'a>(
-    known: &Known,
-    v: usize,
-    source: &'a Name,
-    target: &'a Name,
-) -> Option<&'a Name>
+fn bad_change<'a>(known: &Known, v: usize, source: &'a Name, target: &'a Name) -> Option<&'a Name>
     ensures { option_copied result ≡ spec.bad_change known.now v source.now target.now }
 {
     if mode_named(known, v, source).is_none() {
