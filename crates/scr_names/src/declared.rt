@@ -10,7 +10,7 @@ use crate::known::Known;
 use crate::meaning::Meaning;
 use crate::side::has_sort;
 use scr_reader::{DraftKind, DraftValue, Statement};
-use scr_spec::{Domain, Kind, Sort, TypeDef, Variable, constant_value, kind_range, type_sort};
+use scr_spec::{Domain, Kind, Sort, TypeDef, constant_value, kind_range, type_sort};
 use scr_text::Name;
 
 fn fixed_sort(meaning: Meaning) -> Option<Sort>
@@ -43,12 +43,6 @@ pub(crate) fn is_inside(domain: Domain, code: i64) -> bool
 }
 
 impl Known {
-    fn variable_of(&self, name: &Name) -> Option<&Variable>
-        ensures { option_copied result ≡ spec.variable_of self.now name.now }
-    {
-        self.variables.get(self.variable_named(name)?)
-    }
-
     fn has_bound(&self, name: &Name) -> bool
         ensures { result ≡ spec.has_bound self.now name.now }
     {
