@@ -10,4 +10,14 @@ pub mod Typed
 pub mod Events
 pub mod Cells
 pub mod Names
+pub mod Parts
+pub mod Formed
+pub mod Depth
+pub mod NameSpace
+pub mod Distinct
+pub mod Initial
+pub mod Tables
+pub mod RowModes
+pub mod Values
 pub mod Sound
+pub mod Laws

@@ -41,10 +41,14 @@ item_bound spec item = unsigned_abs item.factor * operand_bound spec item.operan
 abbrev pub side_bound : Data → Expr → ℕ
 side_bound spec e = sum_by (item_bound spec) e.items
 
+-- the modes of a class
+abbrev pub modes_of : Data → ℕ → List (List ℕ)
+modes_of spec v = option_map_or (λ x. kind_modes x.kind) (slice_get spec.variables v) []
+
 -- the names among which a label stands
 abbrev pub labels_of : Data → Owner → List (List ℕ)
 labels_of spec (Named k) = option_map_or (λ t. shape_labels t.shape) (slice_get spec.types k) []
-labels_of spec (Class v) = option_map_or (λ x. kind_modes x.kind) (slice_get spec.variables v) []
+labels_of spec (Class v) = modes_of spec v
 
 -- the code is a place in the list
 abbrev pub is_place : List (List ℕ) → ℤ → Bool

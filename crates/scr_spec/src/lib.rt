@@ -2,6 +2,7 @@
 #![tactic(auto)]
 
 mod cond;
+mod law;
 mod numbers;
 mod sort;
 mod spec;
@@ -9,6 +10,7 @@ mod state;
 mod table;
 
 pub use cond::{Cond, Expr, Item, Operand, Owner};
+pub use law::bounded_depth;
 pub use numbers::{
     constant_value, kind_range, kind_sort, type_range, type_sort, variable_range, variable_sort,
 };

@@ -1,0 +1,35 @@
+-- The names that a specification declares.
+use Rattle.std.specs.Prelude.{ℕ, Bool, false, ◌&&◌, nat_le, List, [], ◌∷◌, ◌++◌, length, is_none}
+use Rattle.std.specs.List.{list_all, flat_map}
+use Rattle.std.specs.Char.{is_ascii_alphabetic}
+use Rattle.scr_text.specs.Piece.{is_word_byte}
+use Rattle.scr_text.specs.Words.{keyword_of}
+use Rattle.scr_spec.specs.declared.spec.TypeDef.{TypeDef}
+use Rattle.scr_spec.specs.declared.spec.Constant.{Constant}
+use Rattle.scr_spec.specs.declared.spec.Variable.{Variable}
+use Rattle.scr_spec.specs.Data.{Data}
+use Rattle.scr_spec.specs.Types.{shape_labels, kind_modes}
+
+-- a letter, then letters, digits and `_`
+abbrev pub is_spelt : List ℕ → Bool
+is_spelt [] = false
+is_spelt (b ∷ bytes) = is_ascii_alphabetic b && list_all is_word_byte bytes
+
+-- from 1 to 24 characters, and no reserved word
+abbrev pub is_name : List ℕ → Bool
+is_name bytes = is_spelt bytes && nat_le (length bytes) 24 && is_none (keyword_of bytes)
+
+-- a type and its enumerators
+abbrev pub type_names : TypeDef → List (List ℕ)
+type_names t = t.name ∷ shape_labels t.shape
+
+abbrev pub constant_names : Constant → List (List ℕ)
+constant_names c = c.name ∷ []
+
+-- a variable, and the modes of a class
+abbrev pub variable_names : Variable → List (List ℕ)
+variable_names x = x.name ∷ kind_modes x.kind
+
+-- all names of the one space; the name of the specification is not in it
+abbrev pub declared_names : Data → List (List ℕ)
+declared_names spec = flat_map type_names spec.types ++ flat_map constant_names spec.constants ++ flat_map variable_names spec.variables
