@@ -1,3 +1,5 @@
 mod Found
+pub mod Kept
+pub mod KeptTypes
 mod CondLaws
 mod Products

@@ -127,8 +127,7 @@ impl Known {
     {
         match variable_range(self.types.as_slice(), self.variables.as_slice(), v) {
             Some(domain) => {
-                self.has_variable(side)
-                    || domain.contains(self.items_value(side.items.as_slice()))
+                self.has_variable(side) || domain.contains(self.items_value(side.items.as_slice()))
             }
             None => true,
         }
