@@ -4,6 +4,7 @@ ghost use Rattle.std.specs.Prelude.{◌≡◌, ◌≤◌, ◌++◌, length, Matc
 ghost use Rattle.scr_text.specs.Lines.{lines};
 ghost use Rattle.scr_reader.specs.Faults as faults;
 ghost use Rattle.scr_reader.specs.Text as spec;
+ghost use Rattle.scr_reader.specs.Readable.{ReadsReadable};
 
 use crate::limit::no_counts;
 use crate::line::read_line;
@@ -92,4 +93,9 @@ pub fn read(alloc: Global, text: &[u8]) -> Result<Draft, TextFault>
 /// A text is read in one way, or refused in one way.
 pub fn one_outcome()
     ensures { spec.OneOutcome }
+{}
+
+/// What is read stands in its places, and within the limits.
+pub fn reads_readable()
+    ensures { ReadsReadable }
 {}

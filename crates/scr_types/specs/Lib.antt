@@ -1,0 +1,4 @@
+pub mod Tables
+pub mod Built
+pub mod Lines
+pub mod Draft
