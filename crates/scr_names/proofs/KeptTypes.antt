@@ -25,7 +25,7 @@ use Rattle.scr_names.specs.declared.known.Known.{Known}
 use Rattle.scr_names.specs.Meanings.{seen}
 use Rattle.scr_names.specs.Sides.{operand_named, or_one, operand_of, item_of, side_of, draft_factor, draft_item_sort, is_integer_item, draft_sort}
 use Rattle.scr_names.specs.Conditions.{typed_step, is_typed_cond, operand_cond, alone_of, cond_of}
-use Rattle.scr_names.proofs.Kept.{Follow, no_more, one_more, PartsKeep, cond_kept}
+use Rattle.scr_names.proofs.Kept.{all_follow, PartsKeep, cond_kept}
 
 -- ---- operands
 
@@ -120,19 +120,15 @@ alone_kept known [] false h = absurd (cc)
 alone_kept known (i ∷ []) false h = single_holds known i (int_eq i.factor (pos 1)) h
 alone_kept known (i ∷ j ∷ is) false h = absurd (cc)
 
-all_follow : {ss ts : List Bool} → Follow ss ts → list_all (λ t. t) ss ≡ true → list_all (λ t. t) ts ≡ true
-all_follow no_more h = refl
-all_follow {ss = s ∷ ss} (one_more f more) h = let p = and_parts s (list_all (λ t. t) ss) h in and_true _ _ (f (p.0)) (all_follow more (p.1))
-
-types_keep : (known : Known) → PartsKeep known (typed_step known) (made_step (seen known))
+types_keep : (known : Known) → PartsKeep known (typed_step known) (typed_step known) (made_step (seen known))
 types_keep known = record {
-  alone = λ side h. alone_kept known side.items (list_all (is_integer_item known) side.items) h;
-  compared = λ l m r h. compared_by r _ _ _ _ (side_kept known l) (side_kept known m) h;
-  negated = λ s t f h. f h;
-  joined_by_and = λ ss ts f h. all_follow f h;
-  joined_by_or = λ ss ts f h. all_follow f h;
+  alone = λ side h k. alone_kept known side.items (list_all (is_integer_item known) side.items) h;
+  compared = λ l m r h k. compared_by r _ _ _ _ (side_kept known l) (side_kept known m) h;
+  negated = λ r s t f h k. f h k;
+  joined_by_and = λ rs ss ts f h k. all_follow f h k;
+  joined_by_or = λ rs ss ts f h k. all_follow f h k;
 }
 
 -- a well typed condition resolves to a well typed one
 pub cond_typed_kept : (known : Known) (d : DraftCond) → is_typed_cond known d ≡ true → is_cond_typed (seen known) (cond_of known d) ≡ true
-cond_typed_kept known d h = cond_kept known (typed_step known) (made_step (seen known)) (types_keep known) d h
+cond_typed_kept known d h = cond_kept known (typed_step known) (typed_step known) (made_step (seen known)) (types_keep known) d h h
