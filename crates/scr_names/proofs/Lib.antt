@@ -1,3 +1,6 @@
 mod Found
+pub mod Kept
+pub mod KeptTypes
+pub mod KeptForms
 mod CondLaws
 mod Products
