@@ -5,9 +5,9 @@ mod built;
 mod fault;
 mod head;
 mod line;
+mod lines;
 mod mode;
-mod resolve;
 mod shape;
 
 pub use fault::{TypeFault, TypeKind};
-pub use resolve::one_resolution;
+pub use lines::one_resolution;

@@ -4,7 +4,7 @@ use Rattle.scr_reader.specs.Readable.{is_line_readable}
 use Rattle.scr_types.specs.Draft as spec
 use Rattle.scr_types.proofs.Small.{small_after}
 use Rattle.scr_types.proofs.Steps.{tested_on, resolves_on, refused_on, refused_here}
-use Rattle.scr_types.proofs.resolve.known_of.Goals as goal
+use Rattle.scr_types.proofs.lines.known_of.Goals as goal
 
 pub returns-in-Err : goal.returns-in-Err
 returns-in-Err c =
