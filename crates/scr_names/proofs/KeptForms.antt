@@ -80,7 +80,7 @@ sides_kept known p keep d h k = cond_kept known spelt_step within_step (sides_st
 
 -- ---- no name is primed
 
-meaning_unprimed : (o : Option Meaning) → is_unprimed (or_one (option_and_then operand_meant o)) ≡ true
+pub meaning_unprimed : (o : Option Meaning) → is_unprimed (or_one (option_and_then operand_meant o)) ≡ true
 meaning_unprimed None = refl
 meaning_unprimed (Some (m.Type k)) = refl
 meaning_unprimed (Some (m.Constant k)) = refl

@@ -5,5 +5,7 @@ pub mod KeptForms
 pub mod KeptDepth
 pub mod There
 pub mod KeptOver
+pub mod KeptValues
+pub mod KeptCells
 mod CondLaws
 mod Products
