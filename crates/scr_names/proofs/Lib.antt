@@ -4,6 +4,7 @@ pub mod KeptTypes
 pub mod KeptForms
 pub mod KeptDepth
 pub mod There
+pub mod ThereAfter
 pub mod KeptOver
 pub mod KeptValues
 pub mod KeptCells
