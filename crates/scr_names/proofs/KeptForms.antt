@@ -49,7 +49,7 @@ alone_passes p known (i ∷ is) = operand_passes p (operand_of known i.operand)
 
 -- ---- joined conditions
 
-joined_all : (ts : List Bool) → are_joined ts ≡ true → list_all (λ t. t) ts ≡ true
+pub joined_all : (ts : List Bool) → are_joined ts ≡ true → list_all (λ t. t) ts ≡ true
 joined_all [] h = absurd (cc)
 joined_all (t ∷ []) h = absurd (cc)
 joined_all (t ∷ u ∷ ts) h = h
@@ -80,7 +80,7 @@ sides_kept known p keep d h k = cond_kept known spelt_step within_step (sides_st
 
 -- ---- no name is primed
 
-meaning_unprimed : (o : Option Meaning) → is_unprimed (or_one (option_and_then operand_meant o)) ≡ true
+pub meaning_unprimed : (o : Option Meaning) → is_unprimed (or_one (option_and_then operand_meant o)) ≡ true
 meaning_unprimed None = refl
 meaning_unprimed (Some (m.Type k)) = refl
 meaning_unprimed (Some (m.Constant k)) = refl
@@ -100,11 +100,11 @@ items_plain known (i ∷ is) h =
     let b = and_parts (is_narrow i.factor) (is_operand_spelt false i.operand) (a.0) in
     and_true _ _ (operand_unprimed known i.operand (b.1)) (items_plain known is (a.1))
 
-some_all : {X : Type 0} (p : X → Bool) (xs : List X) → are_some p xs ≡ true → list_all p xs ≡ true
+pub some_all : {X : Type 0} (p : X → Bool) (xs : List X) → are_some p xs ≡ true → list_all p xs ≡ true
 some_all p [] h = absurd (cc)
 some_all p (x ∷ xs) h = h
 
-some_one : {X : Type 0} (p : X → Bool) (xs : List X) → are_some p xs ≡ true → 1 ≤ length xs
+pub some_one : {X : Type 0} (p : X → Bool) (xs : List X) → are_some p xs ≡ true → 1 ≤ length xs
 some_one p [] h = absurd (cc)
 some_one p (x ∷ xs) h = omega arith
 
