@@ -1,3 +1,12 @@
 mod Found
+pub mod Kept
+pub mod KeptTypes
+pub mod KeptForms
+pub mod KeptDepth
+pub mod There
+pub mod ThereAfter
+pub mod KeptOver
+pub mod KeptValues
+pub mod KeptCells
 mod CondLaws
 mod Products

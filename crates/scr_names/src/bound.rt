@@ -1,48 +1,15 @@
 //! The bound of a side.
 ghost use Rattle.std.specs.Prelude.{◌≡◌, ◌+◌, ◌<◌, ◌≤◌, MatchOption};
-ghost use Rattle.scr_spec.specs.Domains.{kind_domain, list_domain, shape_domain};
 ghost use Rattle.scr_spec.specs.Over as over;
 ghost use Rattle.scr_names.specs.Meanings.{seen};
 ghost use Rattle.scr_names.specs.Sides as spec;
 
 use crate::known::Known;
 use scr_reader::{DraftItem, DraftSide};
-use scr_spec::{Domain, Kind, Operand, Shape, TypeDef, constant_value};
-use scr_text::Name;
+use scr_spec::{Domain, Operand, constant_value};
 
 /// The greatest bound of a side.
 const SIDE_LIMIT: u64 = 2_000_000_000;
-
-fn list_domain(names: &[Name]) -> Domain
-    ensures { result ≡ list_domain names.now }
-{
-    Domain {
-        lo: 0,
-        hi: names.len() as i64 - 1,
-    }
-}
-
-fn shape_domain(shape: &Shape) -> Domain
-    ensures { result ≡ shape_domain shape.now }
-{
-    match shape {
-        Shape::Range(domain) => *domain,
-        Shape::Labels(names) => list_domain(names.as_slice()),
-    }
-}
-
-fn kind_domain(types: &[TypeDef], kind: &Kind) -> Domain
-    ensures { result ≡ kind_domain types.now kind.now }
-{
-    match kind {
-        Kind::Boolean => Domain { lo: 0, hi: 1 },
-        Kind::Named(k) => match types.get(*k) {
-            Some(declared) => shape_domain(&declared.shape),
-            None => Domain { lo: 0, hi: 0 },
-        },
-        Kind::Modes(names) => list_domain(names.as_slice()),
-    }
-}
 
 fn domain_bound(domain: Domain) -> u64
     ensures { result ≡ over.domain_bound domain }
@@ -55,7 +22,7 @@ impl Known {
         ensures { result ≡ over.variable_bound (seen self.now) v }
     {
         match self.variables.get(v) {
-            Some(variable) => domain_bound(kind_domain(self.types.as_slice(), &variable.kind)),
+            Some(variable) => domain_bound(Domain::of_kind(self.types.as_slice(), &variable.kind)),
             None => 0,
         }
     }

@@ -2,7 +2,6 @@
 ghost use Rattle.std.specs.Prelude.{◌≡◌, ◌∷◌};
 ghost use Rattle.std.specs.Option.{option_copied};
 ghost use Rattle.scr_spec.specs.Types.{is_integer_kind};
-ghost use Rattle.scr_spec.specs.Domains.{is_within};
 ghost use Rattle.scr_names.specs.Declarations as spec;
 
 use crate::first::{declared_again, is_among, unless};
@@ -10,7 +9,7 @@ use crate::known::Known;
 use crate::meaning::Meaning;
 use crate::side::has_sort;
 use scr_reader::{DraftKind, DraftValue, Statement};
-use scr_spec::{Domain, Kind, Sort, TypeDef, Variable, constant_value, kind_range, type_sort};
+use scr_spec::{Kind, Sort, TypeDef, constant_value, kind_range, type_sort};
 use scr_text::Name;
 
 fn fixed_sort(meaning: Meaning) -> Option<Sort>
@@ -35,20 +34,7 @@ fn is_integer(types: &[TypeDef], kind: &Kind) -> bool
     }
 }
 
-/// Whether the code is one of the domain.
-pub(crate) fn is_inside(domain: Domain, code: i64) -> bool
-    ensures { result ≡ is_within domain code }
-{
-    domain.lo <= code && code <= domain.hi
-}
-
 impl Known {
-    fn variable_of(&self, name: &Name) -> Option<&Variable>
-        ensures { option_copied result ≡ spec.variable_of self.now name.now }
-    {
-        self.variables.get(self.variable_named(name)?)
-    }
-
     fn has_bound(&self, name: &Name) -> bool
         ensures { result ≡ spec.has_bound self.now name.now }
     {
@@ -243,7 +229,7 @@ impl Known {
         match init {
             None => true,
             Some(value) => match kind_range(self.types.as_slice(), &self.kind_of(kind)) {
-                Some(domain) => is_inside(domain, self.value_code(value)),
+                Some(domain) => domain.contains(self.value_code(value)),
                 None => true,
             },
         }

@@ -1,6 +1,7 @@
 //! What the lines so far declare.
 ghost use Rattle.std.specs.Prelude.{◌≡◌, is_some, IfOk};
 ghost use Rattle.std.specs.Option.{option_copied};
+ghost use Rattle.scr_names.specs.Declarations.{variable_of};
 ghost use Rattle.scr_names.specs.Meanings as spec;
 
 use crate::meaning::Meaning;
@@ -80,6 +81,13 @@ impl Known {
         ensures { result ≡ spec.variable_named self.now name.now }
     {
         variable_meant(self.names.get(name)?)
+    }
+
+    /// The variable of that name. None where the name is not declared, or is no variable.
+    pub fn variable_of(&self, name: &Name) -> Option<&Variable>
+        ensures { option_copied result ≡ variable_of self.now name.now }
+    {
+        self.variables.get(self.variable_named(name)?)
     }
 
     /// Whether a variable has that name.

@@ -6,7 +6,6 @@ ghost use Rattle.scr_spec.specs.Sorts.{constant_at};
 ghost use Rattle.scr_names.specs.Meanings.{seen, operand_meant};
 ghost use Rattle.scr_names.specs.Sides as spec;
 
-use crate::declared::is_inside;
 use crate::known::Known;
 use crate::meaning::Meaning;
 use scr_reader::{DraftItem, DraftOperand, DraftSide};
@@ -128,8 +127,7 @@ impl Known {
     {
         match variable_range(self.types.as_slice(), self.variables.as_slice(), v) {
             Some(domain) => {
-                self.has_variable(side)
-                    || is_inside(domain, self.items_value(side.items.as_slice()))
+                self.has_variable(side) || domain.contains(self.items_value(side.items.as_slice()))
             }
             None => true,
         }

@@ -11,8 +11,8 @@ use Rattle.scr_text.specs.declared.word.Relation.{Relation}
 use Rattle.scr_text.specs.declared.word.Word.{Word}
 use Rattle.scr_text.specs.declared.word.Word.TheVariants as w
 use Rattle.scr_text.specs.declared.word.Sign.TheVariants as s
-use Rattle.scr_text.specs.Tokens.{word_is_small}
 use Rattle.scr_spec.specs.declared.table.Heading.{Heading}
+use Rattle.scr_spec.specs.NameSpace.{is_name}
 use Rattle.scr_spec.specs.Types.{is_narrow}
 use Rattle.scr_reader.specs.declared.draft.DraftOperand.{DraftOperand}
 use Rattle.scr_reader.specs.declared.draft.DraftItem.{DraftItem}
@@ -27,11 +27,12 @@ use Rattle.scr_reader.specs.declared.draft.DraftKind.{DraftKind}
 use Rattle.scr_reader.specs.declared.draft.DraftValue.{DraftValue}
 use Rattle.scr_reader.specs.Words.{IsNatural}
 use Rattle.scr_reader.specs.Limits.{is_bar}
+use Rattle.scr_reader.proofs.SoundWords.{is_word_sound}
 use Rattle.scr_reader.specs.Sides.{turned, Reference, plain_name, primed_name, Item, number, times, reference, true_item, false_item, More, no_more, plus, minus, Side, side, minus_side}
 use Rattle.scr_reader.specs.Conds.{all_of, any_of, Lit, alone, compare, negated, nested, Conj, last_lit, lit_and, Cond, last_conj, conj_or}
 use Rattle.scr_reader.specs.Events.{Change, becomes, ceases, changes, Prim, never, unguarded, guarded, Event, last_prim, prim_or, Cell, condition, event, Cells, last_cell, cell_bar, Sides, last_side, side_bar}
 use Rattle.scr_reader.specs.Names.{Names, last_name, name_comma, Braced, braced, Int, plain_int, minus_int, KindOf, boolean, named_kind, Value, number_value, named_value, true_value, false_value}
-use Rattle.scr_reader.specs.Readable.{is_name_within, are_some, are_joined, is_operand_spelt, is_item_spelt, is_side_spelt, spelt_step, is_cond_spelt, is_change_spelt, is_guard_spelt, is_prim_spelt, is_cell_spelt, is_cell_of, is_kind_spelt, is_value_spelt}
+use Rattle.scr_reader.specs.Readable.{are_some, are_joined, is_operand_spelt, is_item_spelt, is_side_spelt, spelt_step, is_cond_spelt, is_change_spelt, is_guard_spelt, is_prim_spelt, is_cell_spelt, is_cell_of, is_kind_spelt, is_value_spelt}
 
 -- ---- tests
 
@@ -43,24 +44,24 @@ both_true false b h k = absurd (cc)
 
 -- the words are small, with at most so many bars
 pub record AreSmall (bars : ℕ) (from : List Word) : Type 0 where
-  pub small : list_all word_is_small from ≡ true
+  pub small : list_all is_word_sound from ≡ true
   pub few : count_by is_bar from ≤ bars
 
 -- the first is small, and so are those behind it
-pub first : {n : ℕ} (word : Word) (from : List Word) → AreSmall n (word ∷ from) → word_is_small word ≡ true
-first word from k = (and_parts (word_is_small word) (list_all word_is_small from) k.small).0
+pub first : {n : ℕ} (word : Word) (from : List Word) → AreSmall n (word ∷ from) → is_word_sound word ≡ true
+first word from k = (and_parts (is_word_sound word) (list_all is_word_sound from) k.small).0
 
 pub behind : {n : ℕ} {word : Word} {from : List Word} → AreSmall n (word ∷ from) → AreSmall n from
 behind {n} {word} {from} k =
     let counted = sum_by-cons (λ x. cond (is_bar x) 1 0) word from in
-    record { small = (and_parts (word_is_small word) (list_all word_is_small from) k.small).1; few = omega (arith, counted, k.few) }
+    record { small = (and_parts (is_word_sound word) (list_all is_word_sound from) k.small).1; few = omega (arith, counted, k.few) }
 
 -- behind a bar there is one bar less
 pub behind_bar : {n : ℕ} {from : List Word} → AreSmall n (w.Sign s.Bar ∷ from) → (1 ≤ n) × AreSmall (n - 1) from
 behind_bar {n} {from} k =
     let counted = sum_by-cons (λ x. cond (is_bar x) 1 0) (w.Sign s.Bar) from in (
       omega (arith, counted, k.few),
-      record { small = (and_parts (word_is_small (w.Sign s.Bar)) (list_all word_is_small from) k.small).1; few = omega (arith, counted, k.few) },
+      record { small = (and_parts (is_word_sound (w.Sign s.Bar)) (list_all is_word_sound from) k.small).1; few = omega (arith, counted, k.few) },
     )
 
 -- ---- numbers
@@ -73,14 +74,14 @@ turned_narrow n h = grind (arith, ints, nat_tests)
 
 -- ---- names
 
-pub names_small : {n : ℕ} {from rest : List Word} {names : List (List ℕ)} → Names from names rest → AreSmall n from → (are_some is_name_within names ≡ true) × AreSmall n rest
-names_small (last_name {name = name} {rest = rest} d) k = (both_true (is_name_within name) true (first (w.Name name) rest k) refl, behind k)
+pub names_small : {n : ℕ} {from rest : List Word} {names : List (List ℕ)} → Names from names rest → AreSmall n from → (are_some is_name names ≡ true) × AreSmall n rest
+names_small (last_name {name = name} {rest = rest} d) k = (both_true (is_name name) true (first (w.Name name) rest k) refl, behind k)
 names_small (name_comma {name = name} {names = []} {from = from} d) k = let more = names_small d (behind (behind k)) in absurd (cc)
 names_small (name_comma {name = name} {names = m ∷ ms} {from = from} d) k =
     let more = names_small d (behind (behind k)) in
-    (both_true (is_name_within name) (list_all is_name_within (m ∷ ms)) (first (w.Name name) (w.Sign s.Comma ∷ from) k) more.0, more.1)
+    (both_true (is_name name) (list_all is_name (m ∷ ms)) (first (w.Name name) (w.Sign s.Comma ∷ from) k) more.0, more.1)
 
-pub braced_small : {n : ℕ} {from rest : List Word} {names : List (List ℕ)} → Braced from names rest → AreSmall n from → (are_some is_name_within names ≡ true) × AreSmall n rest
+pub braced_small : {n : ℕ} {from rest : List Word} {names : List (List ℕ)} → Braced from names rest → AreSmall n from → (are_some is_name names ≡ true) × AreSmall n rest
 braced_small (braced d) k = let more = names_small d (behind k) in (more.0, behind more.1)
 
 -- ---- integers, types and values

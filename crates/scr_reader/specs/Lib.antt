@@ -5,6 +5,7 @@ pub mod Conds
 pub mod Events
 pub mod Forms
 pub mod Limits
+pub mod Nesting
 pub mod Faults
 pub mod Text
 pub mod Readable

@@ -3,6 +3,7 @@
 use Rattle.std.specs.Prelude.{◌≡◌, ℕ, pos, int_le, nat_le, Bool, true, false, ◌&&◌, if◌then◌else◌, List, [], ◌∷◌, length, Option, Some, None}
 use Rattle.std.specs.Option.{option_map_or, option_and_then}
 use Rattle.std.specs.List.{list_all}
+use Rattle.scr_spec.specs.NameSpace.{is_name}
 use Rattle.scr_spec.specs.Types.{is_narrow}
 use Rattle.scr_spec.specs.declared.spec.Role.{Role}
 use Rattle.scr_spec.specs.declared.spec.Role.TheVariants as role
@@ -31,14 +32,11 @@ use Rattle.scr_reader.specs.declared.place.Place.{Place}
 use Rattle.scr_reader.specs.declared.place.Place.TheVariants as p
 use Rattle.scr_reader.specs.declared.place.Counts.{Counts}
 use Rattle.scr_reader.specs.Limits.{is_statement_within, no_counts, counted, is_count_within}
+use Rattle.scr_reader.specs.Nesting.{is_statement_shallow}
 use Rattle.scr_reader.specs.Forms.{is_between, may_end}
 use Rattle.scr_reader.specs.Text.{TextReads}
 
 -- ---- sides, conditions and events
-
--- a name has at most 24 characters
-abbrev pub is_name_within : List ℕ → Bool
-is_name_within name = nat_le (length name) 24
 
 -- at least one, and each passes the test
 abbrev pub are_some : {X : Type 0} → (X → Bool) → List X → Bool
@@ -55,8 +53,8 @@ are_joined (t ∷ u ∷ ts) = list_all (λ t. t) (t ∷ u ∷ ts)
 abbrev pub is_operand_spelt : Bool → DraftOperand → Bool
 is_operand_spelt primes o.One = true
 is_operand_spelt primes (o.Truth b) = true
-is_operand_spelt primes (o.Plain name) = is_name_within name
-is_operand_spelt primes (o.Primed name) = primes && is_name_within name
+is_operand_spelt primes (o.Plain name) = is_name name
+is_operand_spelt primes (o.Primed name) = primes && is_name name
 
 abbrev pub is_item_spelt : Bool → DraftItem → Bool
 is_item_spelt primes item = is_narrow item.factor && is_operand_spelt primes item.operand
@@ -78,7 +76,7 @@ is_cond_spelt d = fold-DraftCond Bool spelt_step d
 abbrev pub is_change_spelt : DraftChange → Bool
 is_change_spelt (change.Becomes d) = is_cond_spelt d
 is_change_spelt (change.Ceases d) = is_cond_spelt d
-is_change_spelt (change.Changes name) = is_name_within name
+is_change_spelt (change.Changes name) = is_name name
 is_change_spelt change.Never = true
 
 -- NEVER has no guard
@@ -103,12 +101,12 @@ is_cell_spelt (cell.Event e) = is_event_spelt e
 
 abbrev pub is_kind_spelt : DraftKind → Bool
 is_kind_spelt kind.Boolean = true
-is_kind_spelt (kind.Named name) = is_name_within name
+is_kind_spelt (kind.Named name) = is_name name
 
 abbrev pub is_value_spelt : DraftValue → Bool
 is_value_spelt (value.Number n) = is_narrow n
 is_value_spelt (value.Truth b) = true
-is_value_spelt (value.Named name) = is_name_within name
+is_value_spelt (value.Named name) = is_name name
 
 -- a monitored variable has a value behind INIT; a mode class has a line of its own
 abbrev pub is_init_spelt : Role → Option DraftValue → Bool
@@ -119,30 +117,37 @@ is_init_spelt role.Controlled init = option_map_or is_value_spelt init true
 
 -- a mode table has no OVER
 abbrev pub is_over_spelt : Heading → Option (List ℕ) → Bool
-is_over_spelt h.Condition over = option_map_or is_name_within over true
-is_over_spelt h.Event over = option_map_or is_name_within over true
+is_over_spelt h.Condition over = option_map_or is_name over true
+is_over_spelt h.Event over = option_map_or is_name over true
 is_over_spelt h.Modes over = option_map_or (λ name. false) over true
 
--- the words of a line can say the statement: its integers are from -1,000,000 to 1,000,000, its names have at most 24
--- characters, no list but that of a row's modes is empty, and a row has at most 16 cells
+-- the words of a line can say the statement: its integers are from -1,000,000 to 1,000,000, its names are names of
+-- the language, no list but that of a row's modes is empty, and a row has at most 16 cells
 abbrev pub is_statement_spelt : Statement → Bool
-is_statement_spelt (st.Specification name) = is_name_within name
-is_statement_spelt (st.Range name lo hi) = is_name_within name && is_narrow lo && is_narrow hi
-is_statement_spelt (st.Labels name names) = is_name_within name && are_some is_name_within names
-is_statement_spelt (st.Constant name value) = is_name_within name && is_narrow value
-is_statement_spelt (st.Variable role name kind init) = is_name_within name && is_kind_spelt kind && is_init_spelt role init
-is_statement_spelt (st.Class name modes first) = is_name_within name && are_some is_name_within modes && is_name_within first
-is_statement_spelt (st.Head heading name over) = is_name_within name && is_over_spelt heading over
-is_statement_spelt (st.Nat name n) = is_name_within name && int_le (pos 0) n && is_narrow n
-is_statement_spelt (st.Row modes cells) = list_all is_name_within modes && are_some is_cell_spelt cells && nat_le (length cells) 16
+is_statement_spelt (st.Specification name) = is_name name
+is_statement_spelt (st.Range name lo hi) = is_name name && is_narrow lo && is_narrow hi
+is_statement_spelt (st.Labels name names) = is_name name && are_some is_name names
+is_statement_spelt (st.Constant name value) = is_name name && is_narrow value
+is_statement_spelt (st.Variable role name kind init) = is_name name && is_kind_spelt kind && is_init_spelt role init
+is_statement_spelt (st.Class name modes first) = is_name name && are_some is_name modes && is_name first
+is_statement_spelt (st.Head heading name over) = is_name name && is_over_spelt heading over
+is_statement_spelt (st.Nat name n) = is_name name && int_le (pos 0) n && is_narrow n
+is_statement_spelt (st.Row modes cells) = list_all is_name modes && are_some is_cell_spelt cells && nat_le (length cells) 16
 is_statement_spelt (st.Values sides) = are_some (is_side_spelt true) sides && nat_le (length sides) 16
-is_statement_spelt (st.Transition source target e) = is_name_within source && is_name_within target && is_event_spelt e
+is_statement_spelt (st.Transition source target e) = is_name source && is_name target && is_event_spelt e
 is_statement_spelt st.End = true
 is_statement_spelt st.Finish = true
 
 -- and it is within the limits of a statement
+abbrev pub is_statement_readable : Statement → Bool
+is_statement_readable statement = is_statement_within statement && is_statement_spelt statement
+
 abbrev pub is_line_readable : Numbered → Bool
-is_line_readable line = is_statement_within line.statement && is_statement_spelt line.statement
+is_line_readable line = is_statement_readable line.statement
+
+-- no condition of the line is deeper than the limits on parentheses and NOT allow
+abbrev pub is_line_shallow : Numbered → Bool
+is_line_shallow line = is_statement_shallow line.statement
 
 -- ---- places
 
@@ -210,6 +215,7 @@ are_counts_within counts (line ∷ more) = is_count_within (counted counts line.
 -- statements as a text that is read gives them
 pub record IsReadable (lines : List Numbered) : Type 0 where
   pub statements : list_all is_line_readable lines ≡ true
+  pub shallow : list_all is_line_shallow lines ≡ true
   pub places : is_placed p.Start lines ≡ true
   pub counts : are_counts_within no_counts lines ≡ true
 

@@ -1,7 +1,5 @@
 //! A specification.
-ghost use Rattle.std.specs.Prelude.{◌≡◌, IsTrue};
-ghost use Rattle.std.specs.List.{list_all};
-ghost use Rattle.scr_spec.specs.Types.{is_list_sound, is_shape_sound, is_type_sound, is_kind_sound};
+ghost use Rattle.std.specs.Prelude.{◌≡◌};
 ghost use Rattle.scr_spec.specs.Domains.{list_domain, shape_domain, kind_domain};
 ghost use Rattle.scr_spec.specs.Sound.{IsSound};
 
@@ -113,7 +111,6 @@ impl Role {
 impl Domain {
     /// The places in a list of names.
     fn of_list(names: &[Name]) -> Domain
-        requires { IsTrue (is_list_sound names.now) }
         ensures { result ≡ list_domain names.now }
     {
         Domain {
@@ -123,7 +120,6 @@ impl Domain {
     }
 
     fn of_shape(shape: &Shape) -> Domain
-        requires { IsTrue (is_shape_sound shape.now) }
         ensures { result ≡ shape_domain shape.now }
     {
         match shape {
@@ -132,14 +128,16 @@ impl Domain {
         }
     }
 
-    fn of_kind(types: &[TypeDef], kind: &Kind) -> Domain
-        requires types { IsTrue (list_all is_type_sound types.now) }
-        requires kind { IsTrue (is_kind_sound types.now kind.now) }
+    /// The codes of a kind of variable. A type that is not there has the code 0 alone.
+    pub fn of_kind(types: &[TypeDef], kind: &Kind) -> Domain
         ensures { result ≡ kind_domain types.now kind.now }
     {
         match kind {
             Kind::Boolean => Domain { lo: 0, hi: 1 },
-            Kind::Named(k) => Domain::of_shape(&types[*k].shape),
+            Kind::Named(k) => match types.get(*k) {
+                Some(declared) => Domain::of_shape(&declared.shape),
+                None => Domain { lo: 0, hi: 0 },
+            },
             Kind::Modes(names) => Domain::of_list(names.as_slice()),
         }
     }

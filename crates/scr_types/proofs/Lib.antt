@@ -1,2 +1,4 @@
 pub mod Outcome
 pub mod Readings
+pub mod Small
+pub mod Steps

@@ -22,6 +22,7 @@ use Rattle.scr_names.specs.declared.meaning.Meaning.TheVariants as m
 use Rattle.scr_names.specs.Names.{Name}
 use Rattle.scr_names.specs.First.{unless}
 use Rattle.scr_names.specs.Meanings.{meant, variable_named}
+use Rattle.scr_names.specs.Declarations.{variable_of}
 
 -- ---- heads
 
@@ -35,8 +36,7 @@ is_head_new known n = option_map_or (λ v. not (has_table known.tables v)) (vari
 
 -- the name stands for a variable of such a role
 abbrev pub is_role_named : (Role → Bool) → Known → Name → Bool
-is_role_named test known n =
-    option_map_or (λ v. option_map_or (λ x. test x.role) (slice_get known.variables v) false) (variable_named known n) false
+is_role_named test known n = option_map_or (λ x. test x.role) (variable_of known n) false
 
 -- a term or a controlled variable
 abbrev pub is_computed_named : Known → Name → Bool
@@ -63,8 +63,7 @@ is_init_for h.Event init = is_some init
 is_init_for h.Modes init = true
 
 abbrev pub is_head_placed : Known → Heading → Name → Bool
-is_head_placed known heading n =
-    option_map_or (λ v. option_map_or (λ x. is_init_for heading x.init) (slice_get known.variables v) true) (variable_named known n) true
+is_head_placed known heading n = option_map_or (λ x. is_init_for heading x.init) (variable_of known n) true
 
 -- ---- the table
 

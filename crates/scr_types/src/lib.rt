@@ -1,10 +1,17 @@
 //! Resolves the names of a draft: it spells a specification, or one of its lines breaks a rule.
 #![tactic(auto)]
 
+mod built;
 mod fault;
+mod head;
+mod line;
+mod lines;
+mod mode;
 mod reading;
 mod resolving;
+mod shape;
 
 pub use fault::{TypeFault, TypeKind};
+pub use lines::one_resolution;
 pub use reading::one_reading;
 pub use resolving::resolve;
