@@ -179,7 +179,11 @@ fn ends_where_the_sink_fails(rt: HostRuntime) -> Result<(), Fail> {
         };
         let (status, written) = run_on(alloc, &["check", "f"], text.as_bytes(), faults)?;
         assert_eq!(rt; status, Status::WriteFault, "call {writing}");
-        assert!(rt; written.len() < REPORT.len(), "call {writing}");
+        assert_eq!(rt;
+            written.len(),
+            10 * (writing as usize - 1),
+            "call {writing}"
+        );
         assert!(rt; REPORT.starts_with(written.as_slice()), "call {writing}");
     }
     Ok(())

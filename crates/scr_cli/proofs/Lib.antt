@@ -9,3 +9,5 @@ pub mod Printed
 pub mod EndsLemmas
 pub mod Existence
 pub mod Texts
+pub mod OneReport
+pub mod OneAnswer

@@ -10,7 +10,7 @@ use Rattle.scr_reader.proofs.Outcome.{one_outcome}
 use Rattle.scr_spec.specs.Data.{Data}
 use Rattle.scr_cli.specs.declared.status.Status.{Status}
 use Rattle.scr_cli.specs.declared.status.Status.TheVariants.{SpecRefused}
-use Rattle.scr_cli.specs.Built.{spec_of, statements, Unbuilt}
+use Rattle.scr_cli.specs.Built.{spec_of, statements, Spells, Unbuilt, OneSpelling}
 use Rattle.scr_cli.specs.Check.{IsReport, ChecksText, reports, unbuilt, unbuilt_text}
 
 -- a text that is refused spells nothing
@@ -35,3 +35,17 @@ pub answers_report : {X : Type 0} (bytes : X → List ℕ) (status : X → Statu
     → spec_of (statements draft) ≡ Some spec → IfOk r (λ x. IsReport spec (bytes x) (status x)) → IfOk r (λ x. ChecksText text (bytes x) (status x))
 answers_report bytes status text draft spec (Ok x) reads built report = reports spec (record { draft = draft; reads = reads; built = built }) report
 answers_report bytes status text draft spec (Err e) reads built report = tt
+
+-- a text spells one specification at most
+pub spelled_once : (text : List ℕ) (a b : Data) → Spells text a → Spells text b → a ≡ b
+spelled_once text a b first second =
+    (let same : first.draft ≡ second.draft = one_outcome.once text first.draft second.draft first.reads second.reads in
+    let made : spec_of (statements second.draft) ≡ Some a = ap (λ d. spec_of (statements d)) (sym same) ∙ first.built in
+    let also : spec_of (statements second.draft) ≡ Some b = second.built in
+    cc)
+
+pub one_spelling : OneSpelling
+one_spelling = record {
+  once = spelled_once;
+  apart = λ text spec spelled none. none spec spelled;
+}

@@ -3,8 +3,9 @@ use Rattle.std.specs.Prelude.{◌≡◌, ⊤, ℕ, Bool, true, false, List, [], 
 use Rattle.scr_io.specs.Outside.{Contents, Holds}
 use Rattle.scr_cli.specs.declared.form.Form.{Form}
 use Rattle.scr_cli.specs.declared.form.Form.TheVariants.{Check}
+use Rattle.scr_cli.specs.declared.status.Status.{Status}
 use Rattle.scr_cli.specs.declared.status.Status.TheVariants.{Usage}
-use Rattle.scr_cli.specs.Ends.{Answer}
+use Rattle.scr_cli.specs.Ends.{Files, Answer, IsFront}
 use Rattle.scr_cli.specs.Form.{form_of}
 use Rattle.scr_cli.specs.Check.{CheckAnswers}
 
@@ -42,3 +43,8 @@ begins_none (Some Check) = false
 abbrev pub reads_first : Option Form → Bool
 reads_first None = false
 reads_first (Some Check) = true
+
+-- words and files have one answer, and never none
+pub record OneAnswer : Type 0 where
+  pub once : (words : List (List ℕ)) (files : Files) (x y : List ℕ) (i j : Status) → Answers words files x i → Answers words files y j → (x ≡ y) × (i ≡ j)
+  pub some : (words : List (List ℕ)) (files : Files) → IsFront (Answers words files) []

@@ -47,7 +47,7 @@ is_named name x = bytes_eq name x.name
 abbrev pub is_monitored : Variable → Bool
 is_monitored x = is_monitored_role x.role
 
--- a name that no earlier variable has
+-- no two variables have one name
 abbrev pub are_distinct : List Variable → Bool
 are_distinct [] = true
 are_distinct (x ∷ xs) = not (list_any (is_named x.name) xs) && are_distinct xs
@@ -184,7 +184,7 @@ cells_of variables cells = all_there (map (cell_of variables) cells)
 abbrev pub values_of : List DraftSide → Option (List Expr)
 values_of sides = all_there (map value_of sides)
 
--- the one table: it has one row, of at most 16 cells, and as many values
+-- the one table: it has one row and as many values as cells; a line that is read has at most 16 cells
 abbrev pub tables_of : List Variable → List ℕ → List DraftCell → List DraftSide → Option (List Table)
 tables_of variables t cells sides =
     if are_built variables && length cells == length sides && nat_le (length cells) 16
@@ -271,3 +271,8 @@ pub record Spells (text : List ℕ) (spec : Data) : Type 0 where
 -- the text spells none
 abbrev pub Unbuilt : List ℕ → Type 0
 Unbuilt text = (spec : Data) → Spells text spec → ⊥
+
+-- a text spells one specification at most, and none where it is unbuilt
+pub record OneSpelling : Type 0 where
+  pub once : (text : List ℕ) (a b : Data) → Spells text a → Spells text b → a ≡ b
+  pub apart : (text : List ℕ) (spec : Data) → Spells text spec → Unbuilt text → ⊥

@@ -598,3 +598,8 @@ pub(crate) fn spec_of(alloc: Global, draft: &Draft) -> Result<Option<Spec>, NoMe
         _ => Ok(None),
     }
 }
+
+/// A text spells one specification at most, and none where it is unbuilt.
+pub fn one_spelling()
+    ensures { spec.OneSpelling }
+{}

@@ -11,7 +11,7 @@ use scr_io::{Shelf, Sink};
 use scr_text::NoMemory;
 use std::alloc::Global;
 
-/// What such a command answers for its file.
+/// A command that reads one file whole and then writes one text.
 pub(crate) trait Job {
     /// The bytes and the status for a file, if it is there.
     ghost answers: { Self → Option (List ℕ) → List ℕ → Status → Type 0 };
@@ -19,12 +19,13 @@ pub(crate) trait Job {
     /// The most bytes that the file may have.
     ghost limit: { Self → ℕ };
 
-    /// That limit. Each file has an answer, one above the limit and one that is not there included.
+    /// The limit on the file. Each file has an answer, one above it and one that is not there included.
     fn limit(&self) -> usize
         ensures exact { result ≡ limit self.now }
         ensures small { result < 2 ^ 32 }
         ensures some_answer { (held : Option (List ℕ)) → IsFront (answers self.now held) [] };
 
+    /// The text and the status for a file that was read.
     fn answer(&self, alloc: Global, file: Loaded) -> Result<(Vec<u8>, Status), NoMemory>
         ensures exact { IfOk result (λ r. (held : Option (List ℕ))
             → IsLoaded (limit self.now) held file → answers self.now held r.0.items r.1) }

@@ -13,6 +13,7 @@ mod status;
 mod top;
 mod verdict;
 
+pub use built::one_spelling;
 pub use form::Form;
 pub use status::Status;
-pub use top::run;
+pub use top::{one_answer, run};

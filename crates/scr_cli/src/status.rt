@@ -21,6 +21,7 @@ pub enum Status {
 impl Status {
     ghost use Rattle.scr_cli.specs.Number.{status_number};
 
+    /// The exit status, from 0 in the order of the endings.
     pub fn number(self) -> u8
         ensures { result ≡ status_number self }
     {

@@ -3,7 +3,7 @@ ghost use Rattle.std.specs.Prelude.{◌≡◌, ◌≢◌, ◌⊎◌, None, IfOk,
 ghost use Rattle.scr_io.specs.Outside.{HasRisen};
 ghost use Rattle.scr_cli.specs.Ends.{Answered, Stopped, Ended, is_own};
 ghost use Rattle.scr_cli.specs.Form.{form_of};
-ghost use Rattle.scr_cli.specs.Answers.{Answers, UsageAnswers, HoldsFiles, begins_none, reads_first};
+ghost use Rattle.scr_cli.specs.Answers.{Answers, OneAnswer, UsageAnswers, HoldsFiles, begins_none, reads_first};
 
 use crate::check::Check;
 use crate::form::{Form, parse};
@@ -13,7 +13,7 @@ use crate::status::{Status, Stop};
 use scr_io::{Shelf, Sink};
 use std::alloc::Global;
 
-/// The line on words that have no form. No file is begun.
+/// Writes the usage line, for words that have no form. No file is begun.
 fn usage<S: Shelf, K: Sink>(shelf: &S, out: &mut K) -> Result<Status, Stop>
     ensures answered { IfOk result (Answered (S.contents shelf.now) (K.written out.old) (K.written out.new)
         UsageAnswers) }
@@ -30,7 +30,7 @@ fn usage<S: Shelf, K: Sink>(shelf: &S, out: &mut K) -> Result<Status, Stop>
     Ok(Status::Usage)
 }
 
-/// Does what the words ask. A fault ends it.
+/// Does what the words ask, up to the first fault.
 fn dispatch<S: Shelf, K: Sink>(
     alloc: Global,
     words: &[String],
@@ -71,9 +71,10 @@ fn dispatch<S: Shelf, K: Sink>(
 ///   appended nothing.
 /// - `read_cause`, `write_cause`: a fault comes only where the shelf, or the sink, failed in this call.
 /// - `usage`: `Usage` comes only from words that have no form.
-/// - `no_file`, `no_read`: words that name no file begin none.
-/// - `succeeds`: on a steady shelf that holds each file of the words, `ReadFault` never comes. So no
-///   other file is begun.
+/// - `no_file`, `no_read`: for words that name no file the shelf's count of failures is as before,
+///   and `ReadFault` never comes.
+/// - `succeeds`: on a steady shelf that holds each file of the words, `ReadFault` never comes. So a
+///   failure at any other file cannot be its cause.
 ///
 /// `NoMemory` may come at any growth of memory.
 pub fn run<S: Shelf, K: Sink>(alloc: Global, words: &[String], shelf: &mut S, out: &mut K) -> Status
@@ -99,3 +100,8 @@ pub fn run<S: Shelf, K: Sink>(alloc: Global, words: &[String], shelf: &mut S, ou
         Err(Stop::NoMemory) => Status::NoMemory,
     }
 }
+
+/// Words and files have one answer, and never none.
+pub fn one_answer()
+    ensures { OneAnswer }
+{}

@@ -18,6 +18,7 @@ use Rattle.scr_reader.specs.declared.place.TextFault.TheVariants as fault
 use Rattle.scr_reader.specs.Words.{words}
 use Rattle.scr_reader.specs.Forms.{Form}
 use Rattle.scr_reader.specs.Limits.{is_statement_within, counted, is_count_within}
+use Rattle.scr_reader.proofs.Existence.{some_outcome}
 use Rattle.scr_reader.specs.Text.{Says, LineReads, blank, says, WordsRefuse, TokensRefuse, LineRefuses, numbered, Reads, no_line, line_more, Refused, here, later, unfinished, TextReads, TextRefuses, OneOutcome}
 use Rattle.scr_reader.proofs.FormsOnce.{form_once}
 
@@ -183,4 +184,5 @@ one_outcome = record {
   once = λ text a b r q. reads_once r.lines.lines q.lines.lines;
   apart = λ text draft line kind r h. text_apart text draft line kind r h;
   one_fault = λ text m n i j h g. one_fault text m n i j h g;
+  some = some_outcome;
 }

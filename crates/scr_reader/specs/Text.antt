@@ -114,9 +114,10 @@ TextRefuses text fault.NoMemory = Unit {0}
 TextRefuses text (fault.Refused line kind) =
     ((1048576 < length text) × (line ≡ 0) × (kind ≡ k.Limit)) ⊎ ((length text ≤ 1048576) × Refused start 1 (lines text) line kind)
 
--- a text is read in one way, or refused in one way
+-- a text is read in one way or refused in one way, and never neither
 pub record OneOutcome : Type 0 where
   pub once : (text : List ℕ) (a b : List Numbered) → TextReads text a → TextReads text b → a ≡ b
   pub apart : (text : List ℕ) (draft : List Numbered) (line : ℕ) (kind : TextKind) → TextReads text draft → TextRefuses text (fault.Refused line kind) → ⊥
   pub one_fault : (text : List ℕ) (m n : ℕ) (j kind : TextKind) → TextRefuses text (fault.Refused m j) → TextRefuses text (fault.Refused n kind)
       → (m ≡ n) × (j ≡ kind)
+  pub some : (text : List ℕ) → ((draft : List Numbered) → TextReads text draft → ⊥) → ((line : ℕ) (kind : TextKind) → TextRefuses text (fault.Refused line kind) → ⊥) → ⊥

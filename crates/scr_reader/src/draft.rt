@@ -26,7 +26,7 @@ pub struct DraftSide {
     pub items: Items<DraftItem>,
 }
 
-/// A condition. `And` and `Or` have at least two members.
+/// A condition. In a text `And` and `Or` have two members or more.
 #[derive(Debug, Drop)]
 pub enum DraftCond {
     Alone(DraftSide),

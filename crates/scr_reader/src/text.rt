@@ -89,7 +89,7 @@ pub fn read(alloc: Global, text: &[u8]) -> Result<Draft, TextFault>
     Ok(Draft { statements })
 }
 
-/// A text is read in one way, or refused in one way.
+/// A text is read in one way or refused in one way, and never neither.
 pub fn one_outcome()
     ensures { spec.OneOutcome }
 {}

@@ -36,7 +36,7 @@ pub struct Expr {
     pub items: Items<Item>,
 }
 
-/// A condition. `Holds` names a Boolean variable; `And` and `Or` have at least two members.
+/// A condition. `Holds` names a Boolean variable. In a text `And` and `Or` have two members or more.
 #[derive(Debug, Drop)]
 pub enum Cond {
     Truth(bool),

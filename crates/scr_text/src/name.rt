@@ -21,6 +21,7 @@ impl Model for Name {
 }
 
 impl Name {
+    /// A name of these bytes, which are not looked at.
     pub fn from_slice(alloc: Global, bytes: &[u8]) -> Result<Name, NoMemory>
         ensures { IfOk result (λ name. name ≡ bytes.now) }
     {
@@ -28,18 +29,21 @@ impl Name {
         Ok(Name { bytes })
     }
 
+    /// Its bytes.
     pub fn as_slice(&self) -> &[u8]
         ensures { result.now ≡ self.now }
     {
         self.bytes.as_slice()
     }
 
+    /// Another name of the same bytes.
     pub fn copy(&self, alloc: Global) -> Result<Name, NoMemory>
         ensures { IfOk result (λ name. name ≡ self.now) }
     {
         Name::from_slice(alloc, self.as_slice())
     }
 
+    /// Whether both have the same bytes.
     pub fn is_same(&self, other: &Name) -> bool
         ensures { result ≡ bytes_eq self.now other.now }
     {
