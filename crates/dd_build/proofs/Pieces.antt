@@ -13,35 +13,11 @@ use Rattle.dd_store.specs.Held.{Held, sizes, trees, at}
 use Rattle.dd_store.specs.Split.{ShowsNode}
 use Rattle.dd_store.proofs.RunLemmas.{RiseFrom-joined}
 use Rattle.dd_store.proofs.Distinct.{AreDistinct-trees}
+use Rattle.dd_store.proofs.Children.{at_all, cofactor-split, length-children}
 use Rattle.dd_build.specs.declared.reading.Piece.{Piece}
 use Rattle.dd_build.specs.declared.reading.Step.{Step}
 use Rattle.dd_build.specs.Steps.{IsLevel, IsRunAt, IsPiece, IsStep}
 use Rattle.dd_build.proofs.Runs.{last_inside, child_in_run}
-
--- the tree at a place of a list of numbers
-get_or-map : (ts : List Tree) (cs : List ℕ) (i d : ℕ) → i < length cs → get_or (map (at ts) cs) i (leaf false) ≡ at ts (get_or cs i d)
-get_or-map ts [] i d h = absurd (omega arith)
-get_or-map ts (c ∷ cs) zero d h = refl
-get_or-map ts (c ∷ cs) (suc i) d h = get_or-map ts cs i d (omega arith)
-
--- a fact of all elements of a list
-at_all : (P : ℕ → Type 0) (cs : List ℕ) (i d : ℕ) → i < length cs → AllByRecursion P cs → P (get_or cs i d)
-at_all P [] i d h a = absurd (omega arith)
-at_all P (c ∷ cs) zero d h a = a.0
-at_all P (c ∷ cs) (suc i) d h a = at_all P cs i d (omega arith) a.1
-
--- the cofactor of a split on its own level is a child's tree
-cofactor-split : (ts : List Tree) (t : Tree) (l : ℕ) (cs : List ℕ) (i d : ℕ) → t ≡ split l (branches (map (at ts) cs)) → i < length cs → at ts (get_or cs i d) ≡ cofactor l i t
-cofactor-split ts t l cs i d e h =
-    sym (get_or-map ts cs i d h) ∙ ap (λ us. get_or us i (leaf false)) (sym (listed-branches (map (at ts) cs)))
-    ∙ sym (ap (λ b. cond b (get_or (listed (branches (map (at ts) cs))) i (leaf false)) (split l (branches (map (at ts) cs)))) (eq-eqb l l refl))
-    ∙ ap (cofactor l i) (sym e)
-
--- a split on a level has one child per code
-pub length-children : (held : Held) (id level : ℕ) (runs : List Stretch) → ShowsNode held id level runs → length (children_of runs) ≡ get_or (sizes held) level 0
-length-children held id level runs shows =
-    let w = subst (IsOrderedFrom (sizes held) 0) shows.tree shows.ordered in
-    sym (length-map (children_of runs) (at (trees held))) ∙ sym (ap length (listed-branches (map (at (trees held)) (children_of runs)))) ∙ w.2
 
 -- over the run that has a position, the cofactor is the tree of the run's child
 pub IsPiece-run : (held : Held) (id level size position i : ℕ) (runs : List Stretch) (run : Stretch) (piece : Piece) → ShowsNode held id level runs → size ≡ get_or (sizes held) level 0 → IsRunAt runs position i → run ≡ get_or runs i run
