@@ -2,8 +2,8 @@
 use Rattle.std.proofs.Common.{◌≡◌, ℕ, suc, ◌<◌, List, [], ◌∷◌, length, get_or, false, refl, sym, ap, ap₂, subst, ◌∙◌, arith}
 use Rattle.dd_tree.specs.Tree.{Tree, leaf}
 use Rattle.dd_tree.specs.Function.{joined}
-use Rattle.dd_tree.specs.Added.{splits, add_tree, IsIn, AreIn, Extends}
-use Rattle.dd_tree.proofs.Added.{Extends-itself, Extends-trans, Extends-add_all, add_all-known}
+use Rattle.dd_tree.specs.Added.{splits, add_tree, add_all, IsIn, AreIn, Extends}
+use Rattle.dd_tree.proofs.Added.{Extends-itself, Extends-trans, Extends-add_all, add_all-known, IsIn-add_all}
 use Rattle.dd_store.specs.declared.memo.Join.{Join}
 use Rattle.dd_store.specs.Domains.{sizes_of}
 use Rattle.dd_store.specs.Held.{Held, sizes, trees, at, IsKnown, Has, IsSameButMemo}
@@ -68,3 +68,12 @@ AreIn-itself ts = AreIn-places ts ts (λ i lt. found_at ts i lt)
 -- where all was added, nothing else is there
 pub IsWithin-all : (old new : Held) (t : Tree) → trees new ≡ with_splits old t → IsWithin old new t
 IsWithin-all old new t e = subst (λ ts. AreIn ts (trees new)) e (AreIn-itself (trees new))
+
+-- what is in a list stays, by another list
+AreIn-more : (ts us vs : List Tree) → AreIn ts vs → AreIn (add_all ts us) vs
+AreIn-more ts us [] h = tt
+AreIn-more ts us (v ∷ vs) h = (IsIn-add_all ts us v h.0, AreIn-more ts us vs h.1)
+
+-- where nothing was added, nothing else is there
+pub IsWithin-none : (held : Held) (t : Tree) → IsWithin held held t
+IsWithin-none held t = AreIn-more (trees held) (splits t) (trees held) (AreIn-itself (trees held))

@@ -1,3 +1,5 @@
 pub mod Built
 pub mod Results
 pub mod Steps
+pub mod Atoms
+pub mod Sums
