@@ -14,3 +14,8 @@ pub mod Subtotals
 pub mod Rests
 pub mod Sharing
 pub mod AtomLaws
+pub mod ListingLaws
+pub mod Additions
+pub mod FormulaTrees
+pub mod Progress
+pub mod Forms

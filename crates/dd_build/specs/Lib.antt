@@ -3,3 +3,5 @@ pub mod Results
 pub mod Steps
 pub mod Atoms
 pub mod Sums
+pub mod Listing
+pub mod Formulas

@@ -136,6 +136,13 @@ impl Store {
         }
     }
 
+    /// Nothing at run time. It tells a proof what every store keeps, which reading a field opens.
+    pub fn reveal(&self)
+        ensures { IsHeld self.now }
+    {
+        let _limit = self.limit;
+    }
+
     /// The allocator that the store was made with.
     pub fn allocator(&self) -> Global {
         *self.domains.allocator()
