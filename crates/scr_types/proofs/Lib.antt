@@ -1,3 +1,11 @@
 pub mod Outcome
 pub mod Small
 pub mod Steps
+pub mod Passes
+pub mod Carried
+pub mod Grown
+pub mod TypesKept
+pub mod VariablesKept
+pub mod NamesKept
+pub mod OnceKept
+pub mod CountsKept
