@@ -1,8 +1,14 @@
 pub mod Carried
+pub mod CountsKept
+pub mod Grown
 pub mod NamesAt
+pub mod NamesKept
+pub mod OnceKept
 pub mod Outcome
 pub mod Passes
 pub mod RowModes
 pub mod Small
 pub mod Steps
 pub mod Transitions
+pub mod TypesKept
+pub mod VariablesKept
