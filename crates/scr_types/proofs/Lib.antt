@@ -1,6 +1,7 @@
 pub mod Carried
 pub mod CountsKept
 pub mod Grown
+pub mod Heads
 pub mod NamesAt
 pub mod NamesKept
 pub mod OnceKept

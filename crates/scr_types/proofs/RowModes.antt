@@ -26,7 +26,8 @@ use Rattle.scr_names.specs.Meanings.{seen, meant}
 use Rattle.scr_types.specs.Tables.{mode_of, mode_meant, mode_named, has_mode, is_used, is_free, is_mode, first_bad, current_rows}
 use Rattle.scr_types.specs.Built.{joined, cells_with, targets_with, row_with, row_from, rows_with}
 use Rattle.scr_types.proofs.NamesAt.{is_at_place, is_at, NamesAt, meant_at, same_bytes, bytes_same}
-use Rattle.scr_types.proofs.Transitions.{push_all, targets_match}
+use Rattle.scr_types.proofs.Grown.{push_all}
+use Rattle.scr_types.proofs.Transitions.{targets_match}
 
 -- ---- tests
 

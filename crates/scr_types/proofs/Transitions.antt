@@ -15,12 +15,8 @@ use Rattle.scr_spec.specs.Distinct.{are_distinct}
 use Rattle.scr_spec.specs.RowModes.{named_modes}
 use Rattle.scr_spec.proofs.Passing.{and_true}
 use Rattle.scr_types.specs.Tables.{has_mode, is_used}
+use Rattle.scr_types.proofs.Grown.{push_all}
 use Rattle.scr_types.specs.Built.{joined, cells_with, targets_with, row_with, row_from, rows_with}
-
--- ---- lists
-
-pub push_all : {X : Type 0} (p : X → Bool) (xs : List X) (x : X) → list_all p xs ≡ true → p x ≡ true → list_all p (xs ++ x ∷ []) ≡ true
-push_all p xs x h k = list_all-append p xs (x ∷ []) ∙ and_true _ _ h (and_true _ _ k refl)
 
 -- ---- a test of each cell
 
