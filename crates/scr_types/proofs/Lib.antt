@@ -1,7 +1,9 @@
 pub mod Carried
+pub mod CellsKept
 pub mod CountsKept
 pub mod Grown
 pub mod Heads
+pub mod ModesKept
 pub mod NamesAt
 pub mod NamesKept
 pub mod OnceKept

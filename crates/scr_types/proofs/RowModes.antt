@@ -31,18 +31,18 @@ use Rattle.scr_types.proofs.Transitions.{targets_match}
 
 -- ---- tests
 
-not_true : (a : Bool) → not a ≡ true → a ≡ false
+pub not_true : (a : Bool) → not a ≡ true → a ≡ false
 not_true true h = absurd (cc)
 not_true false h = refl
 
 pub false_not : (a : Bool) → a ≡ false → not a ≡ true
 false_not a e = ap not e
 
-or_false : (a b : Bool) → (a || b) ≡ false → (a ≡ false) × (b ≡ false)
+pub or_false : (a b : Bool) → (a || b) ≡ false → (a ≡ false) × (b ≡ false)
 or_false true b h = absurd (cc)
 or_false false b h = (refl, h)
 
-neither : (a b : Bool) → a ≡ false → b ≡ false → (a || b) ≡ false
+pub neither : (a b : Bool) → a ≡ false → b ≡ false → (a || b) ≡ false
 neither a b h k = ap (λ t. t || b) h ∙ k
 
 -- ---- codes
@@ -50,7 +50,7 @@ neither a b h k = ap (λ t. t || b) h ∙ k
 pub same_code : (a b : ℤ) → int_eq a b ≡ true → a ≡ b
 same_code a b e = (Decides-int_eq a b).0 e
 
-code_same : (a b : ℤ) → a ≡ b → int_eq a b ≡ true
+pub code_same : (a b : ℤ) → a ≡ b → int_eq a b ≡ true
 code_same a b e = (Decides-int_eq a b).1 e
 
 other_code : (a b : ℤ) → int_eq a b ≡ false → int_eq b a ≡ false
