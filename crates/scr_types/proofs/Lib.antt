@@ -15,3 +15,6 @@ pub mod Steps
 pub mod Transitions
 pub mod TypesKept
 pub mod VariablesKept
+pub mod Moves
+pub mod Opened
+pub mod TableRules
