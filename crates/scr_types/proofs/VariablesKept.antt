@@ -51,6 +51,7 @@ use Rattle.scr_types.specs.Lines.{after}
 use Rattle.scr_names.proofs.There.{is_there, NamesThere, meant_there}
 use Rattle.scr_names.proofs.ThereAfter.{declared_there}
 use Rattle.scr_types.proofs.Passes.{first_none, second_none, unless_none}
+use Rattle.scr_types.proofs.NamesAt.{NamesAt, at_after}
 use Rattle.scr_types.proofs.Carried.{IsLine, Step}
 use Rattle.scr_types.proofs.Grown.{lt_grown, get_grown, get_there, push_all, set_all, all_at}
 use Rattle.scr_types.proofs.TypesKept.{list_sound}
@@ -281,6 +282,7 @@ class_kept types n modes init h =
 
 pub record VariablesKept (known : Known) : Type 0 where
   pub names : NamesThere known
+  pub labels : NamesAt known
   pub variables : list_all (is_kept known.types) known.variables ≡ true
 
 more_types : (known : Known) (t : TypeDef) → list_all (is_kept known.types) known.variables ≡ true → list_all (is_kept (known.types ++ t ∷ [])) known.variables ≡ true
@@ -328,4 +330,4 @@ there_after place next counts known s.End t h = h
 there_after place next counts known s.Finish t h = h
 
 pub variables_kept : Step (λ place counts known. VariablesKept known)
-variables_kept place next counts known line t h = record { names = there_after place next counts known line t h.names; variables = variables_after place next counts known line t h.names h.variables }
+variables_kept place next counts known line t h = record { names = there_after place next counts known line t h.names; labels = at_after place next counts known line t h.labels; variables = variables_after place next counts known line t h.names h.variables }
