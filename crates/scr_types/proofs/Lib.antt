@@ -1,7 +1,10 @@
 pub mod Carried
+pub mod CellRules
+pub mod ColumnRules
 pub mod CondRules
 pub mod CountsKept
 pub mod Grown
+pub mod HeadRules
 pub mod Heads
 pub mod Moves
 pub mod NamesAt
