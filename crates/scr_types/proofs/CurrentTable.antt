@@ -16,19 +16,6 @@ use Rattle.scr_types.specs.Tables.{told, current_class, current_rows, is_mode, f
 use Rattle.scr_types.proofs.Opened.{core}
 use Rattle.scr_types.proofs.Passes.{first_none, second_none, unless_none}
 
--- ---- what is told
-
-told_by : (test : Variable → Bool) (b : Bool) (o : Option Variable) → option_map_or test o false ≡ true → (if b then None else option_map (λ x. x.name) o) ≡ None → b ≡ true
-told_by test true o h e = refl
-told_by test false None h e = absurd (cc)
-told_by test false (Some x) h e = absurd (cc)
-
--- the table's variable is there, so that a line without a fault is right
-pub told_right : (known : Known) (t : Table) (b : Bool) → known.current ≡ Some t → is_head_sound (core known) t ≡ true → told known b ≡ None → b ≡ true
-told_right known t b e h f =
-    told_by (is_headed t.heading) b (slice_get known.variables t.variable) h
-    (sym (ap (λ o. if b then None else option_map (λ x. x.name) (option_and_then (λ u. slice_get known.variables u.variable) o)) e) ∙ f)
-
 -- ---- its class and its rows
 
 pub class_now : (known : Known) (t : Table) → known.current ≡ Some t → current_class known ≡ t.class

@@ -1,8 +1,11 @@
 pub mod Carried
-pub mod CellsKept
+pub mod CellRules
+pub mod ColumnRules
+pub mod CondRules
 pub mod CountsKept
 pub mod CurrentTable
 pub mod Grown
+pub mod HeadRules
 pub mod Heads
 pub mod ModesKept
 pub mod ModesRule
@@ -17,6 +20,7 @@ pub mod RowModes
 pub mod Small
 pub mod Steps
 pub mod TableRules
+pub mod Told
 pub mod Transitions
 pub mod TypesKept
 pub mod VariablesKept

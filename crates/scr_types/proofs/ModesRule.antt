@@ -34,8 +34,9 @@ use Rattle.scr_types.proofs.Transitions.{rows_all}
 use Rattle.scr_types.proofs.RowModes.{used_named, rows_distinct, rows_placed}
 use Rattle.scr_types.proofs.ModesKept.{code_in, code_is, place_is, row_modes}
 use Rattle.scr_types.proofs.Opened.{core}
-use Rattle.scr_types.proofs.CurrentTable.{told_right, class_now, rows_now, row_placed, no_bad, IsChange, is_change}
+use Rattle.scr_types.proofs.CurrentTable.{class_now, rows_now, row_placed, no_bad, IsChange, is_change}
 use Rattle.scr_types.proofs.TableRules.{TableRule}
+use Rattle.scr_types.proofs.Told.{right}
 
 -- ---- codes of the class
 
@@ -150,7 +151,7 @@ pub modes_rule : TableRule are_modes_sound HasModes
 modes_rule = record {
   head = λ place counts known heading n class t b. no_rows (core known) _;
   row = λ place counts known t heading modes cells e v i a o.
-      let right = told_right known t (is_row_placed known modes cells) a.here.is a.here.head a.read.passes.table in
+      let right = right place known t a.here (is_row_placed known modes cells) a.read.passes.table in
       let placed = and_parts (are_modes_placed t.class t.rows modes) (is_count t.rows (length cells)) (row_placed known t modes cells a.here.is right) in
       row_by known a.base.variables.labels t t.class modes cells a.here.is refl placed.0 a.read.passes.mode o;
   values = λ counts known t heading sides a o. o;

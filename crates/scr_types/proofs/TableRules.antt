@@ -1,10 +1,9 @@
 -- A rule on tables: what the lines of a table keep of it holds of it at its END.
-use Rattle.std.proofs.Common.{◌≡◌, Bool, true, false, List, [], ◌∷◌, ◌++◌, map, Option, Some, None, refl, sym, ap, subst, ◌∙◌}
+use Rattle.std.proofs.Common.{◌≡◌, Bool, true, List, [], ◌++◌, map, Option, Some, None, refl, sym, ap, subst, ◌∙◌}
 use Rattle.std.specs.Option.{option_map, option_to_list, unwrap_or}
 use Rattle.std.specs.List.{list_all}
 use Rattle.scr_spec.specs.Data.{Data}
 use Rattle.scr_spec.specs.declared.table.Heading.{Heading}
-use Rattle.scr_spec.specs.declared.table.Heading.TheVariants as h
 use Rattle.scr_spec.specs.declared.table.Table.{Table}
 use Rattle.scr_reader.specs.declared.draft.DraftCell.{DraftCell}
 use Rattle.scr_reader.specs.declared.draft.DraftSide.{DraftSide}
@@ -26,7 +25,7 @@ use Rattle.scr_types.specs.Built.{mode_code, table_of, row_of, row_added, values
 use Rattle.scr_types.specs.Lines.{after}
 use Rattle.scr_types.proofs.Carried.{IsLine, Step}
 use Rattle.scr_types.proofs.Grown.{push_all}
-use Rattle.scr_types.proofs.Moves.{is_early, is_inside, Moves, declares, heads, first_row, next_row, gives_values, changes, ends, finishes, moves}
+use Rattle.scr_types.proofs.Moves.{Moves, declares, heads, first_row, next_row, gives_values, changes, ends, finishes, moves}
 use Rattle.scr_types.proofs.Opened.{core, Here, Base, base_kept, early_outside, end_inside, between_outside, declared_same}
 
 -- a line in a table: it is read and has no fault
