@@ -15,6 +15,7 @@ pub mod NamesKept
 pub mod OnceKept
 pub mod Opened
 pub mod Outcome
+pub mod OverRules
 pub mod Passes
 pub mod RowModes
 pub mod Small
@@ -23,4 +24,5 @@ pub mod TableRules
 pub mod Told
 pub mod Transitions
 pub mod TypesKept
+pub mod ValueRules
 pub mod VariablesKept
