@@ -21,6 +21,7 @@ pub mod RowModes
 pub mod Small
 pub mod Steps
 pub mod TableRules
+pub mod TabledKept
 pub mod Told
 pub mod Transitions
 pub mod TypesKept
