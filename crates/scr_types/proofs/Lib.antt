@@ -1,6 +1,7 @@
 pub mod Carried
 pub mod CellRules
 pub mod ColumnRules
+pub mod CompleteRule
 pub mod CondRules
 pub mod CountsKept
 pub mod CurrentTable
@@ -20,6 +21,7 @@ pub mod RowModes
 pub mod Small
 pub mod Steps
 pub mod TableRules
+pub mod TargetsRule
 pub mod Told
 pub mod Transitions
 pub mod TypesKept
