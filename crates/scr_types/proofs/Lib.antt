@@ -16,6 +16,7 @@ pub mod NamesKept
 pub mod OnceKept
 pub mod Opened
 pub mod Outcome
+pub mod OverRules
 pub mod Passes
 pub mod RowModes
 pub mod Small
@@ -25,4 +26,5 @@ pub mod TargetsRule
 pub mod Told
 pub mod Transitions
 pub mod TypesKept
+pub mod ValueRules
 pub mod VariablesKept
