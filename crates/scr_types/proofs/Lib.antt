@@ -1,6 +1,7 @@
 pub mod Carried
 pub mod CellRules
 pub mod ColumnRules
+pub mod CompleteRule
 pub mod CondRules
 pub mod CountsKept
 pub mod CurrentTable
@@ -22,6 +23,7 @@ pub mod Small
 pub mod Steps
 pub mod TableRules
 pub mod TabledKept
+pub mod TargetsRule
 pub mod Told
 pub mod Transitions
 pub mod TypesKept

@@ -129,7 +129,7 @@ leaves_more source target targets g h = by (list_any (int_eq target) targets)
         (list_any-append (int_eq source) targets (target ∷ []) ∙ neither _ _ (not_true (list_any (int_eq source) targets) h) (neither _ _ g refl))
 
 -- the only mode of the row is the source
-all_leave : (source target : ℤ) (modes targets : List ℤ) → nat_eq (length modes) 1 ≡ true → list_any (int_eq source) modes ≡ true → int_eq source target ≡ false
+pub all_leave : (source target : ℤ) (modes targets : List ℤ) → nat_eq (length modes) 1 ≡ true → list_any (int_eq source) modes ≡ true → int_eq source target ≡ false
     → list_all (leaves targets) modes ≡ true → list_all (leaves (targets_with target targets)) modes ≡ true
 all_leave source target [] targets one has g h = absurd (cc)
 all_leave source target (x ∷ []) targets one has g h =
