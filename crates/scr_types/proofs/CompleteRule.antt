@@ -18,18 +18,15 @@ use Rattle.scr_names.specs.Names.{Name}
 use Rattle.scr_names.specs.Meanings.{seen}
 use Rattle.scr_types.specs.Tables.{is_used, first_missing, missing_in}
 use Rattle.scr_types.proofs.RowModes.{used_named}
+use Rattle.scr_types.proofs.ModesKept.{taken}
 use Rattle.scr_types.proofs.CurrentTable.{none_missing}
 use Rattle.scr_types.proofs.Opened.{core}
 use Rattle.scr_types.proofs.TableRules.{TableRule}
 
-used_here : (b : Bool) (n : Name) (o : Option Name) → (if b then o else Some n) ≡ None → (b ≡ true) × (o ≡ None)
-used_here true n o h = (refl, h)
-used_here false n o h = absurd (cc)
-
 all_used : (rows : List Row) (place : ℕ) (names : List Name) → first_missing rows place names ≡ None → list_all (λ i. is_named rows (pos i)) (range_with_len place (length names)) ≡ true
 all_used rows place [] h = refl
 all_used rows place (n ∷ ns) h =
-    let used = used_here (is_used rows (pos place)) n (first_missing rows (place + 1) ns) h in
+    let used = taken n (is_used rows (pos place)) (first_missing rows (place + 1) ns) h in
     and_true _ _ (used_named rows (pos place) ∙ used.0) (all_used rows (place + 1) ns used.1)
 
 complete_over : (known : Known) (class : Option ℕ) (rows : List Row) → missing_in known h.Condition class rows ≡ None → is_complete_under (core known) h.Condition class rows ≡ true

@@ -74,7 +74,7 @@ code_in known v n = option_map_or pos (mode_named known v n) (pos 0)
 pub code_is : (known : Known) (v : ℕ) (n : Name) (p : ℕ) → mode_named known v n ≡ Some p → code_in known v n ≡ pos p
 code_is known v n p e = ap (λ o. option_map_or pos o (pos 0)) e
 
-there_is : {X : Type 0} (o : Option X) → is_some o ≡ true → (x : X) × (o ≡ Some x)
+pub there_is : {X : Type 0} (o : Option X) → is_some o ≡ true → (x : X) × (o ≡ Some x)
 there_is None h = absurd (cc)
 there_is (Some x) h = (x, refl)
 
@@ -109,7 +109,7 @@ fresh known at v n (b ∷ before) h k e =
 
 -- ---- the modes of a row
 
-taken : (n : Name) (b : Bool) (o : Option Name) → (if b then o else Some n) ≡ None → (b ≡ true) × (o ≡ None)
+pub taken : (n : Name) (b : Bool) (o : Option Name) → (if b then o else Some n) ≡ None → (b ≡ true) × (o ≡ None)
 taken n true o e = (refl, e)
 taken n false o e = absurd (cc)
 

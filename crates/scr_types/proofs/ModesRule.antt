@@ -32,7 +32,7 @@ use Rattle.scr_types.proofs.Grown.{push_all}
 use Rattle.scr_types.proofs.NamesAt.{NamesAt}
 use Rattle.scr_types.proofs.Transitions.{rows_all}
 use Rattle.scr_types.proofs.RowModes.{used_named, rows_distinct, rows_placed}
-use Rattle.scr_types.proofs.ModesKept.{code_in, code_is, place_is, row_modes}
+use Rattle.scr_types.proofs.ModesKept.{there_is, code_in, code_is, place_is, row_modes}
 use Rattle.scr_types.proofs.Opened.{core}
 use Rattle.scr_types.proofs.CurrentTable.{class_now, rows_now, row_placed, no_bad, IsChange, is_change}
 use Rattle.scr_types.proofs.TableRules.{TableRule}
@@ -45,10 +45,6 @@ same_codes known v ns e = ap (λ o. map (λ n. option_map_or pos (option_and_the
 
 pub same_code_now : (known : Known) (v : ℕ) (n : Name) → current_class known ≡ Some v → mode_code known n ≡ code_in known v n
 same_code_now known v n e = ap (λ o. option_map_or pos (option_and_then (λ u. mode_named known u n) o) (pos 0)) e
-
-there_is : {X : Type 0} (o : Option X) → is_some o ≡ true → (x : X) × (o ≡ Some x)
-there_is None h = absurd (cc)
-there_is (Some x) h = (x, refl)
 
 -- a mode of the class has a place in its list
 pub mode_placed : (known : Known) → NamesAt known → (v : ℕ) (n : Name) → current_class known ≡ Some v → is_mode known v n ≡ true → is_place (modes_of (seen known) v) (mode_code known n) ≡ true
