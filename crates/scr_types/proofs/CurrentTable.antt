@@ -1,18 +1,12 @@
 -- What the rules of a line say of the table whose lines are read now.
-use Rattle.std.proofs.Common.{◌≡◌, ℕ, Bool, true, false, not, ◌&&◌, List, [], length, Option, Some, None, refl, sym, ap, ◌∙◌}
-use Rattle.std.specs.Prelude.{if◌then◌else◌, slice_get}
-use Rattle.std.specs.Option.{option_map, option_map_or, option_and_then}
+use Rattle.std.proofs.Common.{◌≡◌, ℕ, Bool, true, false, not, ◌&&◌, List, [], length, Some, None, refl, sym, ap, ◌∙◌}
+use Rattle.std.specs.Option.{option_map_or, option_and_then}
 use Rattle.std.specs.Str.{bytes_eq}
-use Rattle.scr_spec.specs.Tables.{is_headed, is_head_sound}
-use Rattle.scr_spec.specs.declared.spec.Variable.{Variable}
-use Rattle.scr_spec.specs.declared.table.Row.{Row}
-use Rattle.scr_spec.specs.declared.table.Heading.{Heading}
 use Rattle.scr_spec.specs.declared.table.Table.{Table}
 use Rattle.scr_reader.specs.declared.draft.DraftCell.{DraftCell}
 use Rattle.scr_names.specs.declared.known.Known.{Known}
 use Rattle.scr_names.specs.Names.{Name}
-use Rattle.scr_names.specs.First.{unless}
-use Rattle.scr_types.specs.Tables.{told, current_class, current_rows, is_mode, first_bad, bad_mode, bad_change, bad_transition, missing_in, missing_mode, is_count, are_modes_placed, is_row_placed}
+use Rattle.scr_types.specs.Tables.{current_class, current_rows, is_mode, first_bad, bad_mode, bad_change, bad_transition, missing_in, missing_mode, is_count, are_modes_placed, is_row_placed}
 use Rattle.scr_types.proofs.RowModes.{not_true}
 use Rattle.scr_types.proofs.Passes.{first_none, second_none, unless_none}
 
