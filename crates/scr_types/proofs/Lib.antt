@@ -1,6 +1,7 @@
 pub mod Carried
 pub mod CellRules
 pub mod ColumnRules
+pub mod CompleteRule
 pub mod CondRules
 pub mod CountsKept
 pub mod CurrentTable
@@ -16,12 +17,17 @@ pub mod OnceKept
 pub mod Opened
 pub mod Outcome
 pub mod Readings
+pub mod OverRules
 pub mod Passes
 pub mod RowModes
 pub mod Small
+pub mod Sound
 pub mod Steps
 pub mod TableRules
+pub mod TabledKept
+pub mod TargetsRule
 pub mod Told
 pub mod Transitions
 pub mod TypesKept
+pub mod ValueRules
 pub mod VariablesKept

@@ -54,14 +54,14 @@ pub record AreRuled (R : Data → Table → Bool) (O : Place → Counts → Data
   pub closed : list_all (R (core known)) known.tables ≡ true
   pub current : (t : Table) → known.current ≡ Some t → O place counts (core known) t
 
-no_table : {A : Type 0} {t : Table} {o : Option Table} → o ≡ None → o ≡ Some t → A
+pub no_table : {A : Type 0} {t : Table} {o : Option Table} → o ≡ None → o ≡ Some t → A
 no_table e f = absurd (let g = sym e ∙ f in cc)
 
-same_table : {a b : Table} → Some a ≡ Some b → a ≡ b
+pub same_table : {a b : Table} → Some a ≡ Some b → a ≡ b
 same_table {a} {b} e = ap (λ o. unwrap_or o a) e
 
 -- the table that another one became
-became : (f : Table → Table) (o : Option Table) (t u : Table) → o ≡ Some t → option_map f o ≡ Some u → f t ≡ u
+pub became : (f : Table → Table) (o : Option Table) (t u : Table) → o ≡ Some t → option_map f o ≡ Some u → f t ≡ u
 became f o t u e g = same_table (sym (ap (option_map f) e) ∙ g)
 
 no_tables : (q : Table → Bool) (tables : List Table) → tables ≡ [] → list_all q tables ≡ true
