@@ -13,7 +13,7 @@ use Rattle.scr_cli.specs.declared.status.Status.{Status}
 use Rattle.scr_cli.specs.declared.status.Status.TheVariants.{SpecRefused}
 use Rattle.scr_cli.specs.declared.load.Loaded.{Loaded}
 use Rattle.scr_cli.specs.declared.load.Loaded.TheVariants.{TooLong}
-use Rattle.scr_cli.specs.declared.load.TheConstants.{TEXT_LIMIT}
+use Rattle.scr_reader.specs.declared.text.TheConstants.{TEXT_LIMIT}
 use Rattle.scr_cli.specs.Load.{IsLoaded}
 use Rattle.scr_cli.specs.Judgeable.{is_judgeable}
 use Rattle.scr_cli.specs.Check.{ChecksText, reports, unbuilt, refused, Checks}

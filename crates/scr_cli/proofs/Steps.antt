@@ -110,9 +110,9 @@ zeros : (n : ℕ) → AreBits (replicate n (pos 0))
 zeros zero = tt
 zeros (suc n) = (inl refl, zeros n)
 
-pub zeros_typed : (spec : Data) (table : Table) (codes : Codes) → IsJudged spec table → codes ≡ replicate (length spec.variables) (pos 0) → IsTyped spec codes
-zeros_typed spec table codes judged e =
-    rw e (bits_typed spec (replicate (length spec.variables) (pos 0)) judged.plain (length-replicate (length spec.variables) (pos 0)) (zeros (length spec.variables)))
+pub zeros_typed : (spec : Data) (codes : Codes) → list_all is_plain spec.variables ≡ true → codes ≡ replicate (length spec.variables) (pos 0) → IsTyped spec codes
+zeros_typed spec codes plain e =
+    rw e (bits_typed spec (replicate (length spec.variables) (pos 0)) plain (length-replicate (length spec.variables) (pos 0)) (zeros (length spec.variables)))
 
 -- nothing is found for the goals before
 pub not_found : (spec : Data) (table : Table) (goal : Goal) (goals : List Goal) → least (violates spec table goal) (length spec.variables) [] ≡ None

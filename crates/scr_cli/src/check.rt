@@ -2,9 +2,9 @@
 
 use crate::answer::{answer, refused};
 use crate::job::Job;
-use crate::load::{Loaded, TEXT_LIMIT};
+use crate::load::Loaded;
 use crate::status::Status;
-use scr_reader::TextKind;
+use scr_reader::{TEXT_LIMIT, TextKind};
 use scr_text::NoMemory;
 use std::alloc::Global;
 
@@ -13,7 +13,7 @@ pub(crate) struct Check;
 
 impl Job for Check {
     ghost use Rattle.scr_cli.specs.Check.{Checks};
-    ghost use Rattle.scr_cli.specs.declared.load.TheConstants.{TEXT_LIMIT};
+    ghost use Rattle.scr_reader.specs.declared.text.TheConstants.{TEXT_LIMIT};
 
     ghost answers = { λ _. Checks };
 

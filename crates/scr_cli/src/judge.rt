@@ -6,6 +6,7 @@ ghost use Rattle.scr_spec.specs.Meaning as meaning;
 ghost use Rattle.scr_spec.specs.Domains.{IsTyped};
 ghost use Rattle.scr_spec.specs.Cells.{holds_in};
 ghost use Rattle.scr_cli.specs.Verdict.{column_count, goals_of, pairs_from, violates, none_holds, IsVerdict};
+ghost use Rattle.scr_cli.specs.Judgeable.{is_plain};
 ghost use Rattle.scr_cli.specs.Search.{least, first_violated, IsJudged, IsGoal};
 
 use crate::verdict::{Goal, Verdict};
@@ -83,8 +84,8 @@ fn truth_code(truth: bool) -> i64
 
 /// Gives a variable another truth value.
 #[tactic(auto, using(crate::proofs::Steps::set_laws))]
-fn set_truth(spec: &Spec, table: &Table, at: &mut State, v: usize, truth: bool)
-    requires judged { IsJudged (data_of spec.now) table.now }
+fn set_truth(spec: &Spec, at: &mut State, v: usize, truth: bool)
+    requires plain { list_all is_plain spec.now.variables ≡ true }
     requires typed { IsTyped (data_of spec.now) at.old.codes }
     requires variable { v < length spec.now.variables }
     ensures prefix { take (v + 1) at.new.codes ≡ take v at.old.codes ++ meaning.truth_code truth ∷ [] }
@@ -117,11 +118,11 @@ fn find_least(
     if v == spec.variables.len() {
         return is_against(spec, table, columns, goal, at);
     }
-    set_truth(spec, table, at, v, false);
+    set_truth(spec, at, v, false);
     if find_least(spec, table, columns, goal, at, v + 1) {
         return true;
     }
-    set_truth(spec, table, at, v, true);
+    set_truth(spec, at, v, true);
     find_least(spec, table, columns, goal, at, v + 1)
 }
 
@@ -157,8 +158,8 @@ fn make_goals(alloc: Global, columns: u32) -> Result<Items<Goal>, NoMemory>
 }
 
 /// A state in which each variable is false.
-fn false_state(alloc: Global, spec: &Spec, table: &Table) -> Result<State, NoMemory>
-    requires { IsJudged (data_of spec.now) table.now }
+fn false_state(alloc: Global, spec: &Spec) -> Result<State, NoMemory>
+    requires { list_all is_plain spec.now.variables ≡ true }
     ensures { IfOk result (λ at. IsTyped (data_of spec.now) at.codes) }
 {
     let mut codes = Items::new(alloc);
@@ -198,7 +199,7 @@ pub(crate) fn judge(alloc: Global, spec: &Spec, table: &Table) -> Result<Verdict
 {
     let columns = columns_of(spec, table);
     let goals = make_goals(alloc, columns)?;
-    let mut at = false_state(alloc, spec, table)?;
+    let mut at = false_state(alloc, spec)?;
     match find_violated(spec, table, columns, goals.as_slice(), &mut at) {
         Some(goal) => Ok(Verdict::No(goal, at)),
         None => Ok(Verdict::Yes),

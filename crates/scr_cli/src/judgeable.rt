@@ -7,7 +7,7 @@ ghost use Rattle.scr_cli.specs.Judgeable as test;
 use scr_spec::{Cell, Cond, Expr, Heading, Kind, Operand, Role, Row, Spec, Table, Variable};
 
 /// At most so many monitored variables: all their states are gone through.
-const MONITORED: usize = 12;
+const MONITORED_LIMIT: usize = 12;
 
 fn is_monitored(x: &Variable) -> bool
     ensures { result ≡ test.is_monitored x.now }
@@ -165,7 +165,7 @@ fn dependent_count(variables: &[Variable]) -> usize
 fn are_few(variables: &[Variable]) -> bool
     ensures { result ≡ test.are_few variables.now }
 {
-    dependent_count(variables) == 1 && monitored_count(variables) <= MONITORED
+    dependent_count(variables) == 1 && monitored_count(variables) <= MONITORED_LIMIT
 }
 
 /// Whether the table of a specification is judged so far.

@@ -8,9 +8,6 @@ use crate::status::Stop;
 use scr_io::{LoadFault, Shelf, Sink, read_all, write_all};
 use std::alloc::Global;
 
-/// The most bytes that the text of a specification may have.
-pub(crate) const TEXT_LIMIT: usize = 1_048_576;
-
 /// A file's bytes, where they are within the limit.
 #[derive(Drop)]
 pub(crate) enum Loaded {

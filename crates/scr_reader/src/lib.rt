@@ -22,4 +22,4 @@ pub use draft::{
     DraftPrim, DraftSide, DraftValue, Numbered, Statement,
 };
 pub use place::{Counts, Place, Position, TextFault, TextKind};
-pub use text::{one_outcome, read, reads_readable};
+pub use text::{TEXT_LIMIT, one_outcome, read, reads_readable};

@@ -15,7 +15,7 @@ use sqlite_items::Items;
 use std::alloc::{AllocError, Global};
 
 /// The greatest length of a text, in bytes.
-const TEXT_LIMIT: usize = 1_048_576;
+pub const TEXT_LIMIT: usize = 1_048_576;
 
 fn keep(
     draft: &mut Items<Numbered>,

@@ -7,4 +7,4 @@ use Rattle.scr_cli.proofs.judge.false_state.Goals as goal
 pub returns : goal.returns
 returns c =
     let all : c.loop.counter ≡ length c.args.spec.now.variables = omega arith in
-    zeros_typed (data_of c.args.spec.now) c.args.table.now c.loop.codes c.requires (c.loop.invariant ∙ ap (λ n. replicate n (pos 0)) all)
+    zeros_typed (data_of c.args.spec.now) c.loop.codes c.requires (c.loop.invariant ∙ ap (λ n. replicate n (pos 0)) all)

@@ -9,4 +9,4 @@ pub returns-clause-typed : goal.returns-clause-typed
 returns-clause-typed c =
     let fits : FitsSigned w64 c.truth_code.result = search rules in
     rw (c.set.ensures ∙ ap (slice_set c.args.at.now.codes c.args.v) (to_z-of_z w64 c.truth_code.result fits ∙ c.truth_code.ensures))
-    (set_typed (data_of c.args.spec.now) c.args.at.now.codes c.args.v c.args.truth c.requires.judged.plain c.requires.typed c.requires.variable)
+    (set_typed (data_of c.args.spec.now) c.args.at.now.codes c.args.v c.args.truth c.requires.plain c.requires.typed c.requires.variable)
