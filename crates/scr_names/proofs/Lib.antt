@@ -8,5 +8,6 @@ pub mod ThereAfter
 pub mod KeptOver
 pub mod KeptValues
 pub mod KeptCells
+pub mod KeptRows
 mod CondLaws
 mod Products
