@@ -42,7 +42,7 @@ last_there : {X : Type 0} (xs : List X) (x : X) → nat_lt (length xs) (length (
 last_there xs x = let n = length-append xs (x ∷ []) in lt-ltb (length xs) (length (xs ++ x ∷ [])) (omega arith)
 
 -- the list that the k-th gives
-abbrev list_at : {X : Type 0} → (X → List Name) → List X → ℕ → List Name
+abbrev pub list_at : {X : Type 0} → (X → List Name) → List X → ℕ → List Name
 list_at labels xs k = option_map_or labels (slice_get xs k) []
 
 place_kept : {X : Type 0} (labels : X → List Name) (xs : List X) (x : X) (k j : ℕ) → is_place (list_at labels xs k) (pos j) ≡ true → is_place (list_at labels (xs ++ x ∷ []) k) (pos j) ≡ true
@@ -50,7 +50,7 @@ place_kept labels [] x k j h = no_place j h
 place_kept labels (y ∷ ys) x zero j h = h
 place_kept labels (y ∷ ys) x (suc k) j h = place_kept labels ys x k j h
 
-last_list : {X : Type 0} (labels : X → List Name) (xs : List X) (x : X) → list_at labels (xs ++ x ∷ []) (length xs) ≡ labels x
+pub last_list : {X : Type 0} (labels : X → List Name) (xs : List X) (x : X) → list_at labels (xs ++ x ∷ []) (length xs) ≡ labels x
 last_list labels [] x = refl
 last_list labels (y ∷ ys) x = last_list labels ys x
 
@@ -124,7 +124,7 @@ same_length [] v x = refl
 same_length (y ∷ ys) zero x = refl
 same_length (y ∷ ys) (suc v) x = ap suc (same_length ys v x)
 
-same_lists : (xs : List Variable) (v w : ℕ) (step : ℤ) (o : Option Variable) → slice_get xs v ≡ o
+pub same_lists : (xs : List Variable) (v w : ℕ) (step : ℤ) (o : Option Variable) → slice_get xs v ≡ o
     → list_at (λ (y : Variable). kind_modes y.kind) (option_map_or (λ x. slice_set xs v (bounded step x)) o xs) w ≡ list_at (λ (y : Variable). kind_modes y.kind) xs w
 same_lists xs v w step None e = refl
 same_lists xs v w step (Some x) e = by xs v w e

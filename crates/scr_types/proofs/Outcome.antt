@@ -1,12 +1,11 @@
 -- A draft has one outcome.
-use Rattle.std.proofs.Common.{◌≡◌, ℕ, List, [], ◌∷◌, Option, Some, None, refl, sym, ap, ◌∙◌}
+use Rattle.std.proofs.Common.{◌≡◌, ℕ, List, Option, Some, None, refl, sym, ap, ◌∙◌}
 use Rattle.std.specs.Option.{unwrap_or}
 use Rattle.scr_reader.specs.declared.draft.Numbered.{Numbered}
 use Rattle.scr_names.specs.declared.known.Known.{Known}
 use Rattle.scr_names.specs.Meanings.{seen}
 use Rattle.scr_names.specs.Names.{Name}
 use Rattle.scr_types.specs.declared.fault.TypeKind.{TypeKind}
-use Rattle.scr_types.specs.Lines.{fault_in, after}
 use Rattle.scr_types.specs.Draft.{Resolves, no_more, one_more, Refused, here, later, OneResolution}
 
 one : {known a b : Known} {lines : List Numbered} → Resolves known lines a → Resolves known lines b → a ≡ b

@@ -5,13 +5,14 @@ use Rattle.std.specs.Option.{option_map_or}
 use Rattle.std.specs.List.{list_all}
 use Rattle.std.proofs.lemmas.Bool.{and_parts}
 use Rattle.std.proofs.lemmas.List.Folds.{list_all-append}
+use Rattle.scr_spec.specs.NameSpace.{is_name}
 use Rattle.scr_spec.specs.Types.{is_narrow}
 use Rattle.scr_reader.specs.declared.draft.DraftItem.{DraftItem}
 use Rattle.scr_reader.specs.declared.draft.DraftSide.{DraftSide}
 use Rattle.scr_reader.specs.declared.draft.Statement.{Statement}
 use Rattle.scr_reader.specs.declared.draft.Statement.TheVariants as s
 use Rattle.scr_reader.specs.Limits.{is_item_within, is_side_within, is_statement_within}
-use Rattle.scr_reader.specs.Readable.{is_name_within, are_some, is_operand_spelt, is_item_spelt, is_side_spelt, is_statement_spelt, is_statement_readable}
+use Rattle.scr_reader.specs.Readable.{are_some, is_operand_spelt, is_item_spelt, is_side_spelt, is_statement_spelt, is_statement_readable}
 use Rattle.scr_names.specs.declared.known.Known.{Known}
 use Rattle.scr_names.specs.Meanings.{variable_named}
 use Rattle.scr_names.specs.Declarations.{with_bound_at}
@@ -75,7 +76,7 @@ unfolding after
 kept_small known (s.Specification n) r h = h
 kept_small known (s.Range n lo hi) r h = h
 kept_small known (s.Labels n labels) r h = h
-kept_small known (s.Constant n v) r h = pushed is_narrow_constant known.constants _ h (and_parts (is_name_within n) (is_narrow v) r).1
+kept_small known (s.Constant n v) r h = pushed is_narrow_constant known.constants _ h (and_parts (is_name n) (is_narrow v) r).1
 kept_small known (s.Variable y n kind init) r h = h
 kept_small known (s.Class n modes init) r h = h
 kept_small known (s.Nat n step) r h = subst (λ constants. IsTrue (list_all is_narrow_constant constants)) (sym (same_constants known step (variable_named known n))) h

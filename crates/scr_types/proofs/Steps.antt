@@ -1,5 +1,7 @@
 -- One more line.
-use Rattle.std.proofs.Common.{◌≡◌, ℕ, List, [], ◌∷◌, None, refl, sym, ap, subst, ◌∙◌}
+use Rattle.std.proofs.Common.{◌≡◌, ℕ, Bool, true, List, ◌∷◌, None, sym, ap, subst, ◌∙◌}
+use Rattle.std.specs.List.{list_all}
+use Rattle.std.proofs.lemmas.Bool.{and_parts}
 use Rattle.scr_reader.specs.declared.draft.Numbered.{Numbered}
 use Rattle.scr_names.specs.declared.known.Known.{Known}
 use Rattle.scr_names.specs.Meanings.{nothing}
@@ -9,6 +11,10 @@ use Rattle.scr_types.specs.declared.fault.TypeFault.{TypeFault}
 use Rattle.scr_types.specs.declared.fault.TypeFault.TheVariants as f
 use Rattle.scr_types.specs.Lines.{fault_in, after}
 use Rattle.scr_types.specs.Draft.{Resolves, one_more, Refused, here, later, DraftRefuses, LineRefuses}
+
+-- a test of all lines holds of the first and of those behind it
+pub tested_on : (p : Numbered → Bool) (line : Numbered) (lines more : List Numbered) → lines ≡ line ∷ more → list_all p lines ≡ true → (p line ≡ true) × (list_all p more ≡ true)
+tested_on p line lines more e h = and_parts (p line) (list_all p more) (sym (ap (list_all p) e) ∙ h)
 
 pub resolves_on : {known next last : Known} {line : Numbered} {lines more : List Numbered} → lines ≡ line ∷ more → fault_in known line.statement ≡ None
     → next ≡ after known line.statement → Resolves next more last → Resolves known lines last

@@ -1,7 +1,8 @@
 -- What the lines of a table add: its head begins it, each row, values and transition are put into it, and END keeps it.
-use Rattle.std.specs.Prelude.{ℕ, ℤ, pos, Bool, if◌then◌else◌, List, [], ◌∷◌, ◌++◌, map, Option, Some, None, unwrap_or}
+use Rattle.std.specs.Prelude.{ℕ, ℤ, pos, if◌then◌else◌, List, [], ◌∷◌, ◌++◌, map, Option, Some, None, unwrap_or}
 use Rattle.std.specs.Option.{option_map, option_map_or, option_and_then, option_to_list}
 use Rattle.std.specs.Ordering.{int_eq}
+use Rattle.std.specs.List.{list_any}
 use Rattle.scr_spec.specs.declared.cond.Expr.{Expr}
 use Rattle.scr_spec.specs.declared.table.Cell.{Cell}
 use Rattle.scr_spec.specs.declared.table.Cell.TheVariants as cell
@@ -71,12 +72,11 @@ joined old e = cell.Event (record { prims = cell_prims old ++ e.prims })
 abbrev pub cells_with : ℤ → Event → List ℤ → List Cell → List Cell
 cells_with target e [] cells = cells ++ cell.Event e ∷ []
 cells_with target e (t ∷ ts) [] = cell.Event e ∷ []
-cells_with target e (t ∷ ts) (c ∷ cs) = if int_eq t target then joined c e ∷ cs else c ∷ cells_with target e ts cs
+cells_with target e (t ∷ ts) (c ∷ cs) = if int_eq target t then joined c e ∷ cs else c ∷ cells_with target e ts cs
 
 -- the target is one of the targets
 abbrev pub targets_with : ℤ → List ℤ → List ℤ
-targets_with target [] = target ∷ []
-targets_with target (t ∷ ts) = if int_eq t target then t ∷ ts else t ∷ targets_with target ts
+targets_with target targets = if list_any (int_eq target) targets then targets else targets ++ target ∷ []
 
 abbrev pub row_with : ℤ → Event → Row → Row
 row_with target e row = record { modes = row.modes; cells = cells_with target e row.targets row.cells; targets = targets_with target row.targets }

@@ -1,7 +1,8 @@
 -- The rules of one line, each kind by the first name on the line that breaks it, and the state after a line.
-use Rattle.std.specs.Prelude.{Bool, true, List, Option, Some, None}
+use Rattle.std.specs.Prelude.{Bool, true, ◌&&◌, nat_le, List, length, Option, Some, None}
 use Rattle.std.specs.Option.{option_or, option_map, option_map_or}
 use Rattle.std.specs.List.{list_all}
+use Rattle.scr_reader.specs.declared.draft.DraftEvent.{DraftEvent}
 use Rattle.scr_reader.specs.declared.draft.DraftSide.{DraftSide}
 use Rattle.scr_reader.specs.declared.draft.Statement.{Statement}
 use Rattle.scr_reader.specs.declared.draft.Statement.TheVariants as s
@@ -10,7 +11,7 @@ use Rattle.scr_names.specs.Names.{Name}
 use Rattle.scr_names.specs.First.{unless, first_in}
 use Rattle.scr_names.specs.Meanings.{unknown}
 use Rattle.scr_names.specs.Declarations.{duplicate_declaration, unknown_declaration, ill_declaration, outside_declaration, with_declaration}
-use Rattle.scr_names.specs.Sides.{unknown_side, is_typed_value, is_value_within, is_narrow_side}
+use Rattle.scr_names.specs.Sides.{unknown_side, is_typed_value, is_value_within, is_narrow_item, is_narrow_side}
 use Rattle.scr_names.specs.Events.{unknown_event, unknown_cell, is_typed_event, is_typed_cell, is_narrow_event, is_narrow_cell}
 use Rattle.scr_types.specs.declared.fault.TypeKind.{TypeKind}
 use Rattle.scr_types.specs.declared.fault.TypeKind.TheVariants as k
@@ -29,11 +30,15 @@ abbrev pub unknown_class : Known → Option Name → Option Name
 unknown_class known None = None
 unknown_class known (Some n) = unknown known n
 
+-- the source, the target and the event in this order
+abbrev pub unknown_transition : Known → Name → Name → DraftEvent → Option Name
+unknown_transition known source target e = option_or (unknown known source) (option_or (unknown known target) (unknown_event known e))
+
 abbrev pub unknown_in : Known → Statement → Option Name
 unknown_in known (s.Head heading n class) = option_or (unknown known n) (unknown_class known class)
 unknown_in known (s.Row modes cells) = option_or (first_in (unknown known) modes) (first_in (unknown_cell known) cells)
 unknown_in known (s.Values sides) = first_in (unknown_side known) sides
-unknown_in known (s.Transition source target e) = option_or (unknown known source) (option_or (unknown known target) (unknown_event known e))
+unknown_in known (s.Transition source target e) = unknown_transition known source target e
 unknown_in known line = unknown_declaration known line
 
 -- ---- type: a name stands for something else, or a cell is not well typed
@@ -56,6 +61,10 @@ are_values_within known sides = option_map_or (λ t. list_all (is_value_within k
 abbrev pub outside_in : Known → Statement → Option Name
 outside_in known (s.Values sides) = told known (are_values_within known sides)
 outside_in known line = outside_declaration known line
+
+-- what the limits on a text give: a value has at most 8 items, with factors from -1,000,000 to 1,000,000
+abbrev pub is_small_side : DraftSide → Bool
+is_small_side side = nat_le (length side.items) 8 && list_all is_narrow_item side.items
 
 -- ---- wide: the bound of a side is above 2,000,000,000
 

@@ -25,12 +25,7 @@ fn class_named(known: &Known, class: &Option<Name>) -> Option<usize>
     }
 }
 
-fn head_class(
-    known: &Known,
-    heading: Heading,
-    name: &Name,
-    class: &Option<Name>,
-) -> Option<usize>
+fn head_class(known: &Known, heading: Heading, name: &Name, class: &Option<Name>) -> Option<usize>
     ensures { result ≡ spec.head_class known.now heading name.now class.now }
 {
     match heading {

@@ -1,6 +1,7 @@
 //! The rules of the head of a table.
 ghost use Rattle.std.specs.Prelude.{◌≡◌};
 ghost use Rattle.std.specs.Option.{option_copied};
+ghost use Rattle.scr_spec.specs.Tables.{has_table};
 ghost use Rattle.scr_types.specs.Tables as spec;
 
 use scr_names::{Known, unless};
@@ -9,7 +10,7 @@ use scr_text::Name;
 
 /// Whether a table of the variable with this number is there.
 pub(crate) fn has_table(tables: &[Table], v: usize) -> bool
-    ensures { result ≡ spec.has_table tables.now v }
+    ensures { result ≡ has_table tables.now v }
 {
     for table in tables {
         if table.variable == v {

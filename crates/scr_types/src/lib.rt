@@ -1,6 +1,13 @@
 //! Resolves the names of a draft: it spells a specification, or one of its lines breaks a rule.
 #![tactic(auto)]
 
+mod built;
 mod fault;
+mod head;
+mod line;
+mod lines;
+mod mode;
+mod shape;
 
 pub use fault::{TypeFault, TypeKind};
+pub use lines::one_resolution;

@@ -3,6 +3,8 @@ ghost use Rattle.std.specs.Prelude.{◌≡◌, false, [], pos};
 ghost use Rattle.std.specs.Option.{option_copied};
 ghost use Rattle.std.specs.Ordering.{int_eq};
 ghost use Rattle.std.specs.List.{list_any};
+ghost use Rattle.scr_spec.specs.Over.{modes_of};
+ghost use Rattle.scr_names.specs.Meanings.{seen};
 ghost use Rattle.scr_types.specs.Tables as spec;
 
 use scr_names::{Known, Meaning, is_among, unless};
@@ -104,12 +106,7 @@ pub(crate) fn bad_mode<'a>(known: &Known, names: &'a [Name]) -> Option<&'a Name>
     }
 }
 
-fn bad_change<'a>(
-    known: &Known,
-    v: usize,
-    source: &'a Name,
-    target: &'a Name,
-) -> Option<&'a Name>
+fn bad_change<'a>(known: &Known, v: usize, source: &'a Name, target: &'a Name) -> Option<&'a Name>
     ensures { option_copied result ≡ spec.bad_change known.now v source.now target.now }
 {
     if mode_named(known, v, source).is_none() {
@@ -148,7 +145,7 @@ fn first_missing<'a>(rows: &[Row], names: &'a [Name]) -> Option<&'a Name>
 }
 
 fn missing_of<'a>(known: &'a Known, rows: &[Row], v: usize) -> Option<&'a Name>
-    ensures { option_copied result ≡ spec.first_missing rows.now 0 (spec.class_modes known.now v) }
+    ensures { option_copied result ≡ spec.first_missing rows.now 0 (modes_of (seen known.now) v) }
 {
     match known.variables.get(v) {
         Some(variable) => match &variable.kind {

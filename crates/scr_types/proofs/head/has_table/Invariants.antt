@@ -1,5 +1,5 @@
 use Rattle.std.proofs.Common.{◌≡◌, drop}
-use Rattle.scr_types.specs.Tables.{has_table}
+use Rattle.scr_spec.specs.Tables.{has_table}
 use Rattle.scr_types.proofs.head.has_table.Given as goal
 
 abbrev pub invariant-loop-table : goal.invariant-loop-table

@@ -1,7 +1,7 @@
 //! Resolves a draft line by line.
 ghost use Rattle.std.specs.Prelude.{◌≡◌, true, MatchResult};
 ghost use Rattle.std.specs.List.{list_all};
-ghost use Rattle.scr_reader.specs.Readable.{IsReadable, is_line_readable};
+ghost use Rattle.scr_reader.specs.Readable.{is_line_readable};
 ghost use Rattle.scr_names.specs.Meanings.{nothing};
 ghost use Rattle.scr_types.specs.Draft as spec;
 

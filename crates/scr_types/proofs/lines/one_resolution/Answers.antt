@@ -1,5 +1,5 @@
 use Rattle.scr_types.proofs.Outcome as law
-use Rattle.scr_types.proofs.resolve.one_resolution.Goals as goal
+use Rattle.scr_types.proofs.lines.one_resolution.Goals as goal
 
 pub returns : goal.returns
 returns c = law.one_resolution

@@ -7,7 +7,7 @@ use Rattle.scr_names.specs.Names.{Name}
 use Rattle.scr_names.specs.Sides.{is_narrow_constant}
 use Rattle.scr_types.specs.declared.fault.TypeKind.{TypeKind}
 use Rattle.scr_types.specs.Draft.{Resolves, Refused}
-use Rattle.scr_types.proofs.resolve.known_of.Given as goal
+use Rattle.scr_types.proofs.lines.known_of.Given as goal
 
 abbrev pub invariant-loop-line : goal.invariant-loop-line
 invariant-loop-line l = record {
