@@ -8,6 +8,5 @@ pub mod ThereAfter
 pub mod KeptOver
 pub mod KeptValues
 pub mod KeptCells
-pub mod KeptRows
 mod CondLaws
 mod Products
