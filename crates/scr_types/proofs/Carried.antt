@@ -1,5 +1,5 @@
 -- What each line keeps at its place is kept by all lines to the end.
-use Rattle.std.proofs.Common.{◌≡◌, Bool, true, false, ◌&&◌, List, [], ◌∷◌, Option, Some, None, refl, subst}
+use Rattle.std.proofs.Common.{◌≡◌, Bool, true, false, List, [], ◌∷◌, Option, Some, None, refl, subst}
 use Rattle.std.specs.Option.{option_map_or}
 use Rattle.std.specs.List.{list_all}
 use Rattle.std.proofs.lemmas.Bool.{and_parts}
@@ -13,7 +13,7 @@ use Rattle.scr_reader.specs.Nesting.{is_statement_shallow}
 use Rattle.scr_reader.specs.Readable.{is_statement_spelt, is_line_readable, is_line_shallow, place_after, is_after, is_placed, are_counts_within, IsReadable}
 use Rattle.scr_names.specs.declared.known.Known.{Known}
 use Rattle.scr_names.specs.Meanings.{nothing}
-use Rattle.scr_types.specs.Lines.{fault_in, after}
+use Rattle.scr_types.specs.Lines.{after}
 use Rattle.scr_types.specs.Draft.{Resolves, no_more, one_more}
 use Rattle.scr_types.proofs.Passes.{Passes, passes}
 

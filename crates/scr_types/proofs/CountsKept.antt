@@ -1,19 +1,17 @@
 -- At most 64 types, 256 constants and 128 variables are declared.
-use Rattle.std.proofs.Common.{◌≡◌, ℕ, ◌+◌, ℤ, Bool, true, ◌&&◌, List, length, Option, Some, None, refl, sym, ap, ◌∙◌, arith}
+use Rattle.std.proofs.Common.{◌≡◌, ℕ, ◌+◌, ℤ, true, ◌&&◌, length, Option, Some, None, refl, ap, ◌∙◌}
 use Rattle.std.specs.Prelude.{nat_le, slice_get, slice_set}
 use Rattle.std.specs.Option.{option_map_or}
 use Rattle.std.proofs.lemmas.Bool.{and_parts}
 use Rattle.scr_spec.specs.declared.spec.Variable.{Variable}
-use Rattle.scr_reader.specs.declared.draft.Statement.{Statement}
 use Rattle.scr_reader.specs.declared.draft.Statement.TheVariants as s
-use Rattle.scr_reader.specs.declared.place.Place.{Place}
 use Rattle.scr_reader.specs.declared.place.Counts.{Counts}
-use Rattle.scr_reader.specs.Limits.{counted, is_count_within}
+use Rattle.scr_reader.specs.Limits.{is_count_within}
 use Rattle.scr_names.specs.declared.known.Known.{Known}
 use Rattle.scr_names.specs.Meanings.{variable_named}
 use Rattle.scr_names.specs.Declarations.{bounded, with_bound_at}
 use Rattle.scr_types.specs.Lines.{after}
-use Rattle.scr_types.proofs.Carried.{IsLine, Step}
+use Rattle.scr_types.proofs.Carried.{Step}
 use Rattle.scr_types.proofs.Grown.{more_length, set_length}
 
 -- the lines are counted as what they declare

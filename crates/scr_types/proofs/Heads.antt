@@ -1,10 +1,10 @@
 -- What the head of a table gives: its variable is one for such a table, and has none yet.
-use Rattle.std.proofs.Common.{◌≡◌, ℕ, Bool, true, false, not, List, Option, Some, None, refl, sym, ap, ◌∙◌}
-use Rattle.std.specs.Prelude.{nat_eq, is_none, is_some, slice_get, unwrap_or}
-use Rattle.std.specs.Option.{option_or, option_map_or, option_and_then}
+use Rattle.std.proofs.Common.{◌≡◌, ℕ, Bool, true, false, not, Option, Some, None, refl, sym, ap, ◌∙◌}
+use Rattle.std.specs.Prelude.{nat_eq, slice_get, unwrap_or}
+use Rattle.std.specs.Option.{option_map_or, option_and_then}
 use Rattle.std.proofs.lemmas.Bool.{eq-eqb}
 use Rattle.scr_spec.specs.Roles.{is_class_role, is_computed_role}
-use Rattle.scr_spec.specs.Tables.{has_table, is_headed, is_head_sound, is_class_at, is_over_class, is_class_sound}
+use Rattle.scr_spec.specs.Tables.{has_table, is_headed, is_head_sound, is_class_at, is_class_sound}
 use Rattle.scr_spec.specs.declared.spec.Variable.{Variable}
 use Rattle.scr_spec.specs.declared.table.Heading.{Heading}
 use Rattle.scr_spec.specs.declared.table.Heading.TheVariants as h
@@ -13,11 +13,10 @@ use Rattle.scr_spec.proofs.Passing.{and_true}
 use Rattle.scr_reader.specs.declared.draft.Statement.TheVariants as s
 use Rattle.scr_names.specs.declared.known.Known.{Known}
 use Rattle.scr_names.specs.Names.{Name}
-use Rattle.scr_names.specs.First.{unless}
 use Rattle.scr_names.specs.Meanings.{seen, variable_named}
 use Rattle.scr_names.specs.Declarations.{variable_of}
 use Rattle.scr_types.specs.Tables.{is_head_new, is_computed_named, is_class_named, ill_class, is_init_for, is_head_placed}
-use Rattle.scr_types.specs.Built.{head_class, table_of}
+use Rattle.scr_types.specs.Built.{table_of}
 use Rattle.scr_types.proofs.Passes.{Passes, first_none, second_none, unless_none}
 
 pub record IsBegun (known : Known) (t : Table) : Type 0 where

@@ -1,10 +1,9 @@
 -- From which place to which place a line leads.
-use Rattle.std.proofs.Common.{◌≡◌, Bool, true, false, List, Option, Some, None, refl, sym, ap, subst, ◌∙◌}
+use Rattle.std.proofs.Common.{◌≡◌, Bool, true, false, List, Option, Some, None, refl, sym, ap, subst}
 use Rattle.std.specs.Prelude.{if◌then◌else◌}
-use Rattle.std.specs.Option.{option_and_then, unwrap_or}
+use Rattle.std.specs.Option.{unwrap_or}
 use Rattle.std.specs.List.{list_all}
 use Rattle.scr_spec.specs.declared.table.Heading.{Heading}
-use Rattle.scr_spec.specs.declared.table.Heading.TheVariants as h
 use Rattle.scr_reader.specs.declared.draft.DraftCell.{DraftCell}
 use Rattle.scr_reader.specs.declared.draft.DraftSide.{DraftSide}
 use Rattle.scr_reader.specs.declared.draft.DraftEvent.{DraftEvent}
@@ -13,7 +12,7 @@ use Rattle.scr_reader.specs.declared.draft.Statement.TheVariants as s
 use Rattle.scr_reader.specs.declared.place.Place.{Place}
 use Rattle.scr_reader.specs.declared.place.Place.TheVariants as p
 use Rattle.scr_reader.specs.Forms.{is_between, may_end}
-use Rattle.scr_reader.specs.Readable.{among_declarations, head_place, row_heading, is_cell_of, place_after}
+use Rattle.scr_reader.specs.Readable.{among_declarations, head_place, is_cell_of, place_after}
 use Rattle.scr_names.specs.Names.{Name}
 
 -- the line declares, or names the specification

@@ -24,6 +24,8 @@ use Rattle.scr_names.specs.Names.{Name, NameList, meaning_of, is_known, with_nam
 use Rattle.scr_names.specs.Meanings.{seen, nothing, meant, variable_named}
 use Rattle.scr_names.specs.Declarations.{with_labels, with_bound_at, with_declaration}
 use Rattle.scr_names.proofs.ThereAfter.{list_at, last_list, same_lists}
+use Rattle.scr_types.specs.Lines.{after}
+use Rattle.scr_types.proofs.Carried.{Step}
 
 -- the name is the one at this place
 abbrev pub is_at_place : Name → List Name → ℕ → Bool
@@ -157,3 +159,19 @@ declared_at known (s.Values sides) h = h
 declared_at known (s.Transition source target event) h = h
 declared_at known s.End h = h
 declared_at known s.Finish h = h
+
+pub at_after : Step (λ place counts known. NamesAt known)
+unfolding after
+at_after place next counts known (s.Specification n) t h = declared_at known (s.Specification n) h
+at_after place next counts known (s.Range n lo hi) t h = declared_at known (s.Range n lo hi) h
+at_after place next counts known (s.Labels n labels) t h = declared_at known (s.Labels n labels) h
+at_after place next counts known (s.Constant n number) t h = declared_at known (s.Constant n number) h
+at_after place next counts known (s.Variable role n kind init) t h = declared_at known (s.Variable role n kind init) h
+at_after place next counts known (s.Class n modes init) t h = declared_at known (s.Class n modes init) h
+at_after place next counts known (s.Nat n step) t h = declared_at known (s.Nat n step) h
+at_after place next counts known (s.Head heading n class) t h = h
+at_after place next counts known (s.Row modes cells) t h = h
+at_after place next counts known (s.Values sides) t h = h
+at_after place next counts known (s.Transition source target event) t h = h
+at_after place next counts known s.End t h = h
+at_after place next counts known s.Finish t h = h

@@ -1,11 +1,10 @@
 -- Each declared name is a name of a text, and so is that of the specification.
-use Rattle.std.proofs.Common.{◌≡◌, ℕ, zero, suc, ℤ, Bool, true, false, ◌&&◌, List, [], ◌∷◌, ◌++◌, Option, Some, None, refl, sym, ap, ◌∙◌, inl, inr, ◌⊎◌}
+use Rattle.std.proofs.Common.{◌≡◌, ℕ, ℤ, Bool, true, false, ◌&&◌, List, [], ◌∷◌, ◌++◌, Option, Some, None, refl, sym, ap, ◌∙◌, inl, inr, ◌⊎◌}
 use Rattle.std.specs.Prelude.{slice_get, slice_set}
 use Rattle.std.specs.Option.{option_map_or}
 use Rattle.std.specs.List.{list_all, flat_map}
 use Rattle.std.proofs.lemmas.Bool.{and_parts}
 use Rattle.std.proofs.lemmas.List.Folds.{list_all-append}
-use Rattle.scr_spec.specs.declared.spec.Kind.{Kind}
 use Rattle.scr_spec.specs.declared.spec.Kind.TheVariants as kind
 use Rattle.scr_spec.specs.declared.spec.TypeDef.{TypeDef}
 use Rattle.scr_spec.specs.declared.spec.Constant.{Constant}

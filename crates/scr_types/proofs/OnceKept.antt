@@ -1,5 +1,5 @@
 -- Each name is declared once.
-use Rattle.std.proofs.Common.{◌≡◌, ℕ, zero, suc, ◌+◌, ◌≤◌, ℤ, Bool, true, false, not, ◌&&◌, ◌||◌, List, [], ◌∷◌, ◌++◌, length, Option, Some, None, is_some, refl, sym, ap, subst, ◌∙◌, zero-add, arith}
+use Rattle.std.proofs.Common.{◌≡◌, ℕ, zero, suc, ◌+◌, ◌≤◌, ℤ, Bool, true, false, not, ◌||◌, List, [], ◌∷◌, ◌++◌, Option, Some, None, is_some, refl, sym, ap, ◌∙◌, zero-add, arith}
 use Rattle.std.specs.Prelude.{if◌then◌else◌, slice_get, slice_set}
 use Rattle.std.specs.Option.{option_map_or}
 use Rattle.std.specs.List.{list_any, flat_map}
@@ -14,10 +14,7 @@ use Rattle.scr_spec.specs.declared.spec.Variable.{Variable}
 use Rattle.scr_spec.specs.NameSpace.{type_names, constant_names, variable_names, declared_names}
 use Rattle.scr_spec.specs.Distinct.{are_distinct}
 use Rattle.scr_spec.proofs.Passing.{and_true}
-use Rattle.scr_reader.specs.declared.draft.Statement.{Statement}
 use Rattle.scr_reader.specs.declared.draft.Statement.TheVariants as s
-use Rattle.scr_reader.specs.declared.place.Place.{Place}
-use Rattle.scr_reader.specs.declared.place.Counts.{Counts}
 use Rattle.scr_names.specs.declared.known.Known.{Known}
 use Rattle.scr_names.specs.declared.meaning.Meaning.{Meaning}
 use Rattle.scr_names.specs.declared.meaning.Meaning.TheVariants as m
@@ -26,7 +23,7 @@ use Rattle.scr_names.specs.First.{first_again}
 use Rattle.scr_names.specs.Meanings.{seen, variable_named}
 use Rattle.scr_names.specs.Declarations.{with_labels, bounded, with_bound_at}
 use Rattle.scr_types.specs.Lines.{after}
-use Rattle.scr_types.proofs.Carried.{IsLine, Step}
+use Rattle.scr_types.proofs.Carried.{Step}
 use Rattle.scr_types.proofs.NamesKept.{plain_modes}
 
 -- ---- how often a name stands in a list

@@ -1,38 +1,29 @@
 -- The table whose lines are read now stands at a variable for such a table, and has a mode class or none.
-use Rattle.std.proofs.Common.{◌≡◌, ℕ, ◌+◌, ◌≤◌, ℤ, Bool, true, false, not, ◌&&◌, List, [], ◌∷◌, ◌++◌, map, length, Option, Some, None, is_some, is_none, refl, sym, ap, subst, ◌∙◌, arith}
-use Rattle.std.specs.Prelude.{if◌then◌else◌, nat_eq, nat_lt, slice_get, unwrap_or}
-use Rattle.std.specs.Option.{option_map, option_map_or, option_and_then, option_or}
-use Rattle.std.specs.List.{list_all}
-use Rattle.std.proofs.lemmas.Bool.{and_parts, eq-eqb}
+use Rattle.std.proofs.Common.{◌≡◌, ℕ, ◌≤◌, ℤ, Bool, true, false, List, [], ◌∷◌, ◌++◌, map, length, Option, Some, None, refl, sym, ap, subst, ◌∙◌, arith}
+use Rattle.std.specs.Option.{option_map, option_map_or}
 use Rattle.std.proofs.lemmas.List.{length-append}
 use Rattle.scr_spec.specs.Data.{Data}
-use Rattle.scr_spec.specs.declared.spec.Role.{Role}
-use Rattle.scr_spec.specs.declared.spec.Variable.{Variable}
 use Rattle.scr_spec.specs.declared.table.Heading.{Heading}
 use Rattle.scr_spec.specs.declared.table.Heading.TheVariants as h
 use Rattle.scr_spec.specs.declared.table.Table.{Table}
-use Rattle.scr_spec.specs.Roles.{is_class_role, is_computed_role}
-use Rattle.scr_spec.specs.Tables.{is_headed, is_head_sound, is_class_at, is_class_sound}
-use Rattle.scr_spec.proofs.Passing.{and_true}
-use Rattle.scr_reader.specs.declared.draft.DraftCell.{DraftCell}
+use Rattle.scr_spec.specs.Tables.{is_head_sound, is_class_sound}
 use Rattle.scr_reader.specs.declared.draft.Statement.{Statement}
 use Rattle.scr_reader.specs.declared.draft.Statement.TheVariants as s
 use Rattle.scr_reader.specs.declared.place.Place.{Place}
 use Rattle.scr_reader.specs.declared.place.Place.TheVariants as p
 use Rattle.scr_reader.specs.declared.place.Counts.{Counts}
 use Rattle.scr_reader.specs.Forms.{is_between, may_end}
-use Rattle.scr_reader.specs.Readable.{is_cell_of, head_place}
+use Rattle.scr_reader.specs.Readable.{head_place}
 use Rattle.scr_names.proofs.KeptValues.{has_values}
 use Rattle.scr_names.specs.declared.known.Known.{Known}
 use Rattle.scr_names.specs.Names.{Name}
-use Rattle.scr_names.specs.Meanings.{seen, variable_named}
+use Rattle.scr_names.specs.Meanings.{variable_named}
 use Rattle.scr_names.specs.Sides.{side_of}
 use Rattle.scr_names.specs.Events.{event_of}
 use Rattle.scr_names.specs.Declarations.{with_bound_at}
-use Rattle.scr_types.specs.Tables.{is_computed_named, is_class_named, ill_class, is_init_for, is_head_placed}
-use Rattle.scr_types.specs.Built.{mode_code, head_class, table_of, row_of, row_added, values_set, transition_added}
+use Rattle.scr_types.specs.Built.{mode_code, table_of, row_of, row_added, values_set, transition_added}
 use Rattle.scr_types.specs.Lines.{after}
-use Rattle.scr_types.proofs.Passes.{Passes, first_none, second_none, unless_none}
+use Rattle.scr_types.proofs.Heads.{begun}
 use Rattle.scr_types.proofs.Carried.{IsLine, Step}
 use Rattle.scr_types.proofs.Moves.{is_declaring, is_early, is_inside, Moves, declares, heads, first_row, next_row, gives_values, changes, ends, finishes, moves}
 use Rattle.scr_types.proofs.VariablesKept.{VariablesKept, variables_kept}
@@ -133,44 +124,6 @@ declared_same known s.Finish d = absurd (cc)
 
 -- ---- heads
 
--- a term or controlled variable, with an initial value or without
-computed_by : (xs : List Variable) (o : Option ℕ) (test : Variable → Bool) → option_map_or (λ x. is_computed_role x.role) (option_and_then (slice_get xs) o) false ≡ true
-    → option_map_or test (option_and_then (slice_get xs) o) true ≡ true → option_map_or (λ x. is_computed_role x.role && test x) (slice_get xs (unwrap_or o 0)) false ≡ true
-computed_by xs None test h k = absurd (cc)
-computed_by xs (Some v) test h k = by (slice_get xs v) h k
-  where
-    by : (o : Option Variable) → option_map_or (λ x. is_computed_role x.role) o false ≡ true → option_map_or test o true ≡ true → option_map_or (λ x. is_computed_role x.role && test x) o false ≡ true
-    by None i j = absurd (cc)
-    by (Some x) i j = and_true _ _ i j
-
-class_by : (xs : List Variable) (o : Option ℕ) → option_map_or (λ x. is_class_role x.role) (option_and_then (slice_get xs) o) false ≡ true → option_map_or (λ x. is_class_role x.role) (slice_get xs (unwrap_or o 0)) false ≡ true
-class_by xs None h = absurd (cc)
-class_by xs (Some v) h = h
-
-head_sound : (known : Known) (heading : Heading) (n : Name) (class : Option Name) → Passes known (s.Head heading n class) → is_head_sound (core known) (table_of known heading n class) ≡ true
-head_sound known h.Condition n class t =
-    computed_by known.variables (variable_named known n) (λ x. is_none x.init) (unless_none (is_computed_named known n) n (first_none _ (ill_class known class) t.ill)) (unless_none (is_head_placed known h.Condition n) n t.table)
-head_sound known h.Event n class t =
-    computed_by known.variables (variable_named known n) (λ x. is_some x.init) (unless_none (is_computed_named known n) n (first_none _ (ill_class known class) t.ill)) (unless_none (is_head_placed known h.Event n) n t.table)
-head_sound known h.Modes n class t = class_by known.variables (variable_named known n) (unless_none (is_class_named known n) n t.ill)
-
-over_by : (known : Known) (o : Option ℕ) → option_map_or (λ x. is_class_role x.role) (option_and_then (slice_get known.variables) o) false ≡ true → option_map_or (is_class_at (core known)) o true ≡ true
-over_by known None h = refl
-over_by known (Some v) h = h
-
-over_class : (known : Known) (class : Option Name) → ill_class known class ≡ None → option_map_or (is_class_at (core known)) (option_and_then (variable_named known) class) true ≡ true
-over_class known None e = refl
-over_class known (Some n) e = over_by known (variable_named known n) (unless_none (is_class_named known n) n e)
-
-own_class : (xs : List Variable) (o : Option ℕ) → option_map_or (λ x. is_class_role x.role) (option_and_then (slice_get xs) o) false ≡ true → option_map_or (nat_eq (unwrap_or o 0)) o false ≡ true
-own_class xs None h = absurd (cc)
-own_class xs (Some v) h = eq-eqb v v refl
-
-class_sound : (known : Known) (heading : Heading) (n : Name) (class : Option Name) → Passes known (s.Head heading n class) → is_class_sound (core known) (table_of known heading n class) ≡ true
-class_sound known h.Condition n class t = over_class known class (second_none _ (ill_class known class) t.ill)
-class_sound known h.Event n class t = over_class known class (second_none _ (ill_class known class) t.ill)
-class_sound known h.Modes n class t = own_class known.variables (variable_named known n) (unless_none (is_class_named known n) n t.ill)
-
 opened_at : (known : Known) (heading : Heading) (n : Name) (class : Option Name) → IsOpenAt (head_place heading) (table_of known heading n class)
 opened_at known h.Condition n class = (refl, refl, refl, refl)
 opened_at known h.Event n class = (refl, refl, refl, refl)
@@ -199,7 +152,7 @@ by_move place next counts known line (heads {heading = heading} {n = n} {class =
   variables = after_variables place next counts known line t b;
   early = λ k. apart k (head_late heading);
   outside = λ k. apart (head_inside heading) k;
-  inside = λ k. (table_of known heading n class, record { is = refl; at = opened_at known heading n class; head = head_sound known heading n class t.passes; class = class_sound known heading n class t.passes });
+  inside = λ k. (table_of known heading n class, record { is = refl; at = opened_at known heading n class; head = (begun known heading n class t.passes).head; class = (begun known heading n class t.passes).class });
 }
 by_move place next counts known line (first_row {heading = heading} {modes = modes} {cells = cells} i) t b =
     let o = b.inside refl in

@@ -1,7 +1,6 @@
 -- A line without a fault breaks no rule of any kind.
 use Rattle.std.proofs.Common.{◌≡◌, Bool, true, false, Option, Some, None, refl}
-use Rattle.std.specs.Option.{option_or, option_map}
-use Rattle.scr_spec.specs.declared.spec.Variable.{Variable}
+use Rattle.std.specs.Option.{option_or}
 use Rattle.scr_reader.specs.declared.draft.Statement.{Statement}
 use Rattle.scr_names.specs.declared.known.Known.{Known}
 use Rattle.scr_names.specs.Names.{Name}

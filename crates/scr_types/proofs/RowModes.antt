@@ -1,33 +1,21 @@
 -- The modes that the rows of a table name, with one more row or transition.
-use Rattle.std.proofs.Common.{◌≡◌, ℕ, suc, ◌+◌, ◌<◌, ◌≤◌, ℤ, pos, Bool, true, false, not, ◌&&◌, ◌||◌, if◌then◌else◌, List, [], ◌∷◌, ◌++◌, map, length, Option, Some, None, append_assoc, refl, sym, ap, subst, ◌∙◌, arith}
-use Rattle.std.specs.Prelude.{nat_eq, nat_le, slice_get, unwrap_or}
-use Rattle.std.specs.Option.{option_map_or, option_and_then}
+use Rattle.std.proofs.Common.{◌≡◌, ℕ, ℤ, Bool, true, false, not, ◌||◌, if◌then◌else◌, List, [], ◌∷◌, ◌++◌, length, append_assoc, refl, sym, ap, ◌∙◌, arith}
+use Rattle.std.specs.Prelude.{nat_eq}
 use Rattle.std.specs.Ordering.{int_eq}
-use Rattle.std.specs.List.{list_all, list_any, flat_map}
-use Rattle.std.specs.Str.{bytes_eq}
-use Rattle.std.proofs.lemmas.Bool.{and_parts, eqb-true, eq-eqb, le-leb, lt-ltb}
+use Rattle.std.specs.List.{list_all, list_any}
+use Rattle.std.proofs.lemmas.Bool.{and_parts, eqb-true, eq-eqb}
 use Rattle.std.proofs.lemmas.Bool.Decides.{Decides-int_eq}
-use Rattle.std.proofs.lemmas.List.Folds.{list_all-append, list_any-append}
-use Rattle.std.proofs.lemmas.Option.{slice_get_within}
-use Rattle.scr_spec.specs.Data.{Data}
-use Rattle.scr_spec.specs.declared.cond.Owner.{Owner}
-use Rattle.scr_spec.specs.declared.cond.Owner.TheVariants as owner
+use Rattle.std.proofs.lemmas.List.Folds.{list_any-append}
 use Rattle.scr_spec.specs.declared.table.Event.{Event}
 use Rattle.scr_spec.specs.declared.table.Row.{Row}
-use Rattle.scr_spec.specs.Over.{modes_of, is_place}
+use Rattle.scr_spec.specs.Over.{is_place}
 use Rattle.scr_spec.specs.Distinct.{are_distinct}
-use Rattle.scr_spec.specs.RowModes.{named_modes, is_transition}
+use Rattle.scr_spec.specs.RowModes.{named_modes}
 use Rattle.scr_spec.proofs.Passing.{and_true}
-use Rattle.scr_names.specs.declared.meaning.Meaning.{Meaning}
-use Rattle.scr_names.specs.declared.meaning.Meaning.TheVariants as m
-use Rattle.scr_names.specs.declared.known.Known.{Known}
 use Rattle.scr_names.specs.Names.{Name}
-use Rattle.scr_names.specs.Meanings.{seen, meant}
-use Rattle.scr_types.specs.Tables.{mode_of, mode_meant, mode_named, has_mode, is_used, is_free, is_mode, first_bad, current_rows}
-use Rattle.scr_types.specs.Built.{joined, cells_with, targets_with, row_with, row_from, rows_with}
-use Rattle.scr_types.proofs.NamesAt.{is_at_place, is_at, NamesAt, meant_at, same_bytes, bytes_same}
+use Rattle.scr_types.specs.Tables.{has_mode, is_used}
+use Rattle.scr_types.specs.Built.{targets_with, row_with, rows_with}
 use Rattle.scr_types.proofs.Grown.{push_all}
-use Rattle.scr_types.proofs.Transitions.{targets_match}
 
 -- ---- tests
 
@@ -141,7 +129,7 @@ leaves_more source target targets g h = by (list_any (int_eq target) targets)
         (list_any-append (int_eq source) targets (target ∷ []) ∙ neither _ _ (not_true (list_any (int_eq source) targets) h) (neither _ _ g refl))
 
 -- the only mode of the row is the source
-all_leave : (source target : ℤ) (modes targets : List ℤ) → nat_eq (length modes) 1 ≡ true → list_any (int_eq source) modes ≡ true → int_eq source target ≡ false
+pub all_leave : (source target : ℤ) (modes targets : List ℤ) → nat_eq (length modes) 1 ≡ true → list_any (int_eq source) modes ≡ true → int_eq source target ≡ false
     → list_all (leaves targets) modes ≡ true → list_all (leaves (targets_with target targets)) modes ≡ true
 all_leave source target [] targets one has g h = absurd (cc)
 all_leave source target (x ∷ []) targets one has g h =

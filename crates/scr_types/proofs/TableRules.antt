@@ -1,10 +1,9 @@
 -- A rule on tables: what the lines of a table keep of it holds of it at its END.
-use Rattle.std.proofs.Common.{◌≡◌, Bool, true, false, List, [], ◌∷◌, ◌++◌, map, Option, Some, None, refl, sym, ap, subst, ◌∙◌}
+use Rattle.std.proofs.Common.{◌≡◌, Bool, true, List, [], ◌++◌, map, Option, Some, None, refl, sym, ap, subst, ◌∙◌}
 use Rattle.std.specs.Option.{option_map, option_to_list, unwrap_or}
 use Rattle.std.specs.List.{list_all}
 use Rattle.scr_spec.specs.Data.{Data}
 use Rattle.scr_spec.specs.declared.table.Heading.{Heading}
-use Rattle.scr_spec.specs.declared.table.Heading.TheVariants as h
 use Rattle.scr_spec.specs.declared.table.Table.{Table}
 use Rattle.scr_reader.specs.declared.draft.DraftCell.{DraftCell}
 use Rattle.scr_reader.specs.declared.draft.DraftSide.{DraftSide}
@@ -26,7 +25,7 @@ use Rattle.scr_types.specs.Built.{mode_code, table_of, row_of, row_added, values
 use Rattle.scr_types.specs.Lines.{after}
 use Rattle.scr_types.proofs.Carried.{IsLine, Step}
 use Rattle.scr_types.proofs.Grown.{push_all}
-use Rattle.scr_types.proofs.Moves.{is_early, is_inside, Moves, declares, heads, first_row, next_row, gives_values, changes, ends, finishes, moves}
+use Rattle.scr_types.proofs.Moves.{Moves, declares, heads, first_row, next_row, gives_values, changes, ends, finishes, moves}
 use Rattle.scr_types.proofs.Opened.{core, Here, Base, base_kept, early_outside, end_inside, between_outside, declared_same}
 
 -- a line in a table: it is read and has no fault
@@ -55,14 +54,14 @@ pub record AreRuled (R : Data → Table → Bool) (O : Place → Counts → Data
   pub closed : list_all (R (core known)) known.tables ≡ true
   pub current : (t : Table) → known.current ≡ Some t → O place counts (core known) t
 
-no_table : {A : Type 0} {t : Table} {o : Option Table} → o ≡ None → o ≡ Some t → A
+pub no_table : {A : Type 0} {t : Table} {o : Option Table} → o ≡ None → o ≡ Some t → A
 no_table e f = absurd (let g = sym e ∙ f in cc)
 
-same_table : {a b : Table} → Some a ≡ Some b → a ≡ b
+pub same_table : {a b : Table} → Some a ≡ Some b → a ≡ b
 same_table {a} {b} e = ap (λ o. unwrap_or o a) e
 
 -- the table that another one became
-became : (f : Table → Table) (o : Option Table) (t u : Table) → o ≡ Some t → option_map f o ≡ Some u → f t ≡ u
+pub became : (f : Table → Table) (o : Option Table) (t u : Table) → o ≡ Some t → option_map f o ≡ Some u → f t ≡ u
 became f o t u e g = same_table (sym (ap (option_map f) e) ∙ g)
 
 no_tables : (q : Table → Bool) (tables : List Table) → tables ≡ [] → list_all q tables ≡ true

@@ -1,20 +1,17 @@
 -- The rows of a mode table, with one more transition.
-use Rattle.std.proofs.Common.{◌≡◌, ℕ, suc, ◌+◌, ◌≤◌, ℤ, Bool, true, false, not, ◌&&◌, ◌||◌, if◌then◌else◌, List, [], ◌∷◌, ◌++◌, length, refl, sym, ap, subst, ◌∙◌, arith}
+use Rattle.std.proofs.Common.{◌≡◌, ℕ, suc, ◌+◌, ◌≤◌, ℤ, Bool, true, false, ◌||◌, if◌then◌else◌, List, [], ◌∷◌, ◌++◌, length, refl, ap, ◌∙◌, arith}
 use Rattle.std.specs.Prelude.{sum_by}
 use Rattle.std.specs.Ordering.{int_eq}
-use Rattle.std.specs.List.{list_all, list_any, flat_map}
+use Rattle.std.specs.List.{list_all, list_any}
 use Rattle.std.proofs.lemmas.Bool.{and_parts}
 use Rattle.std.proofs.lemmas.List.{length-append}
-use Rattle.std.proofs.lemmas.List.Folds.{list_all-append}
 use Rattle.std.proofs.lemmas.List.Sums.{sum_by-cons}
 use Rattle.scr_spec.specs.declared.table.Cell.{Cell}
 use Rattle.scr_spec.specs.declared.table.Cell.TheVariants as cell
 use Rattle.scr_spec.specs.declared.table.Event.{Event}
 use Rattle.scr_spec.specs.declared.table.Row.{Row}
-use Rattle.scr_spec.specs.Distinct.{are_distinct}
-use Rattle.scr_spec.specs.RowModes.{named_modes}
 use Rattle.scr_spec.proofs.Passing.{and_true}
-use Rattle.scr_types.specs.Tables.{has_mode, is_used}
+use Rattle.scr_types.specs.Tables.{has_mode}
 use Rattle.scr_types.proofs.Grown.{push_all}
 use Rattle.scr_types.specs.Built.{joined, cells_with, targets_with, row_with, row_from, rows_with}
 

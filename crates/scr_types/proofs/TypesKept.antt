@@ -1,5 +1,5 @@
 -- Types and constants are within the limits.
-use Rattle.std.proofs.Common.{◌≡◌, ℕ, ℤ, pos, Bool, true, ◌&&◌, List, ◌-ℤ◌, length, Option, Some, None, refl, arith}
+use Rattle.std.proofs.Common.{◌≡◌, ℕ, ℤ, Bool, true, ◌&&◌, List, length, Option, Some, None}
 use Rattle.std.specs.Prelude.{nat_le, int_le}
 use Rattle.std.specs.Option.{option_map_or}
 use Rattle.std.specs.List.{list_all}
@@ -8,10 +8,7 @@ use Rattle.scr_spec.specs.declared.spec.Constant.{Constant}
 use Rattle.scr_spec.specs.Types.{is_narrow, is_list_sound, is_type_sound}
 use Rattle.scr_spec.specs.NameSpace.{is_name}
 use Rattle.scr_spec.proofs.Passing.{and_true}
-use Rattle.scr_reader.specs.declared.draft.Statement.{Statement}
 use Rattle.scr_reader.specs.declared.draft.Statement.TheVariants as s
-use Rattle.scr_reader.specs.declared.place.Place.{Place}
-use Rattle.scr_reader.specs.declared.place.Counts.{Counts}
 use Rattle.scr_reader.specs.Readable.{are_some}
 use Rattle.scr_names.proofs.KeptForms.{some_one}
 use Rattle.scr_names.specs.declared.known.Known.{Known}
@@ -19,7 +16,7 @@ use Rattle.scr_names.specs.Meanings.{variable_named}
 use Rattle.scr_names.specs.Declarations.{with_bound_at}
 use Rattle.scr_types.specs.Lines.{after}
 use Rattle.scr_types.proofs.Passes.{unless_none}
-use Rattle.scr_types.proofs.Carried.{IsLine, Step}
+use Rattle.scr_types.proofs.Carried.{Step}
 use Rattle.scr_types.proofs.Grown.{push_all}
 
 abbrev pub is_constant_narrow : Constant → Bool

@@ -1,19 +1,16 @@
 -- Each variable has a type that is there, the right kind for its role, a bound that it may have, and an initial value of
 -- its own where it has one.
-use Rattle.std.proofs.Common.{◌≡◌, ℕ, zero, suc, ◌+◌, ◌<◌, ◌≤◌, ℤ, pos, Bool, true, false, not, ◌&&◌, ◌||◌, List, [], ◌∷◌, ◌++◌, length, Option, Some, None, is_some, refl, sym, ap, subst, ◌∙◌, arith, ◌-ℤ◌}
-use Rattle.std.specs.Prelude.{nat_lt, nat_le, nat_eq, int_le, int_lt, slice_get, slice_set, if◌then◌else◌, unwrap_or, position}
+use Rattle.std.proofs.Common.{◌≡◌, ℕ, ◌<◌, ◌≤◌, ℤ, pos, Bool, true, false, not, ◌&&◌, ◌||◌, List, [], ◌∷◌, ◌++◌, length, Option, Some, None, is_some, refl, sym, ap, ◌∙◌, arith, ◌-ℤ◌}
+use Rattle.std.specs.Prelude.{nat_lt, nat_le, int_le, int_lt, slice_get, slice_set, unwrap_or, position}
 use Rattle.std.specs.Ordering.{int_eq}
-use Rattle.std.specs.Option.{option_map, option_map_or, option_and_then, option_or}
+use Rattle.std.specs.Option.{option_map, option_map_or, option_and_then}
 use Rattle.std.specs.List.{list_all}
 use Rattle.std.specs.Str.{bytes_eq}
-use Rattle.std.proofs.lemmas.Bool.{and_parts, ltb-true, lt-ltb, leb-true, eqb-true}
-use Rattle.std.proofs.lemmas.Bool.Decides.{Decides-int_eq}
+use Rattle.std.proofs.lemmas.Bool.{and_parts, leb-true, eqb-true}
 use Rattle.std.proofs.lemmas.Int.{ints}
 use Rattle.std.proofs.lemmas.List.Quantifiers.{position-Some}
-use Rattle.scr_spec.specs.declared.cond.Owner.{Owner}
 use Rattle.scr_spec.specs.declared.cond.Owner.TheVariants as owner
 use Rattle.scr_spec.specs.declared.sort.Sort.TheVariants as sort
-use Rattle.scr_spec.specs.declared.spec.Domain.{Domain}
 use Rattle.scr_spec.specs.declared.spec.Shape.{Shape}
 use Rattle.scr_spec.specs.declared.spec.Shape.TheVariants.{Range, Labels}
 use Rattle.scr_spec.specs.declared.spec.Role.{Role}
@@ -25,7 +22,6 @@ use Rattle.scr_spec.specs.declared.spec.Variable.{Variable}
 use Rattle.scr_spec.specs.Data.{Data}
 use Rattle.scr_spec.specs.Roles.{is_monitored_role, is_class_role, is_computed_role}
 use Rattle.scr_spec.specs.Sorts.{is_sort, shape_range, type_range, type_sort, kind_range}
-use Rattle.scr_spec.specs.Meaning.{truth_code}
 use Rattle.scr_spec.specs.Domains.{list_domain, shape_domain, no_domain, kind_domain, is_within}
 use Rattle.scr_spec.specs.Types.{is_narrow, is_list_sound, is_kind_sound, is_integer_kind, is_range, is_bound_sound, shape_labels}
 use Rattle.scr_spec.specs.Over.{labels_of, is_place}
@@ -40,17 +36,18 @@ use Rattle.scr_reader.specs.declared.draft.Statement.{Statement}
 use Rattle.scr_reader.specs.declared.draft.Statement.TheVariants as s
 use Rattle.scr_reader.specs.declared.place.Place.{Place}
 use Rattle.scr_reader.specs.declared.place.Counts.{Counts}
-use Rattle.scr_reader.specs.Readable.{are_some, is_kind_spelt, is_value_spelt, is_init_spelt}
+use Rattle.scr_reader.specs.Readable.{are_some, is_kind_spelt, is_init_spelt}
 use Rattle.scr_names.specs.declared.known.Known.{Known}
 use Rattle.scr_names.specs.declared.meaning.Meaning.{Meaning}
 use Rattle.scr_names.specs.declared.meaning.Meaning.TheVariants as m
 use Rattle.scr_names.specs.Names.{Name}
 use Rattle.scr_names.specs.Meanings.{seen, meant, type_meant, type_named, variable_named}
-use Rattle.scr_names.specs.Declarations.{no_type, drawn_sort, fixed_sort, value_sort, is_value_typed, is_init_typed, takes_bound, kind_of, fixed_code, value_code, is_init_within, init_code, place_of, bounded, with_bound_at}
+use Rattle.scr_names.specs.Declarations.{no_type, fixed_sort, value_sort, is_init_typed, takes_bound, kind_of, fixed_code, value_code, is_init_within, init_code, place_of, bounded, with_bound_at}
 use Rattle.scr_types.specs.Lines.{after}
 use Rattle.scr_names.proofs.There.{is_there, NamesThere, meant_there}
 use Rattle.scr_names.proofs.ThereAfter.{declared_there}
 use Rattle.scr_types.proofs.Passes.{first_none, second_none, unless_none}
+use Rattle.scr_types.proofs.NamesAt.{NamesAt, at_after}
 use Rattle.scr_types.proofs.Carried.{IsLine, Step}
 use Rattle.scr_types.proofs.Grown.{lt_grown, get_grown, get_there, push_all, set_all, all_at}
 use Rattle.scr_types.proofs.TypesKept.{list_sound}
@@ -281,6 +278,7 @@ class_kept types n modes init h =
 
 pub record VariablesKept (known : Known) : Type 0 where
   pub names : NamesThere known
+  pub labels : NamesAt known
   pub variables : list_all (is_kept known.types) known.variables ≡ true
 
 more_types : (known : Known) (t : TypeDef) → list_all (is_kept known.types) known.variables ≡ true → list_all (is_kept (known.types ++ t ∷ [])) known.variables ≡ true
@@ -328,4 +326,4 @@ there_after place next counts known s.End t h = h
 there_after place next counts known s.Finish t h = h
 
 pub variables_kept : Step (λ place counts known. VariablesKept known)
-variables_kept place next counts known line t h = record { names = there_after place next counts known line t h.names; variables = variables_after place next counts known line t h.names h.variables }
+variables_kept place next counts known line t h = record { names = there_after place next counts known line t h.names; labels = at_after place next counts known line t h.labels; variables = variables_after place next counts known line t h.names h.variables }
