@@ -22,6 +22,7 @@ pub mod RowModes
 pub mod Small
 pub mod Steps
 pub mod TableRules
+pub mod TabledKept
 pub mod TargetsRule
 pub mod Told
 pub mod Transitions

@@ -87,7 +87,7 @@ between_outside p.Transitions h = absurd (cc)
 between_outside p.Tables h = refl
 between_outside p.After h = absurd (cc)
 
-head_inside : (heading : Heading) → is_inside (head_place heading) ≡ true
+pub head_inside : (heading : Heading) → is_inside (head_place heading) ≡ true
 head_inside h.Condition = refl
 head_inside h.Event = refl
 head_inside h.Modes = refl
