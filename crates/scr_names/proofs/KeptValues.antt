@@ -10,7 +10,6 @@ use Rattle.scr_spec.specs.declared.sort.Sort.{Sort}
 use Rattle.scr_spec.specs.declared.table.Heading.{Heading}
 use Rattle.scr_spec.specs.declared.table.Heading.TheVariants as heading
 use Rattle.scr_spec.specs.Domains.{is_within}
-use Rattle.scr_spec.specs.Over.{is_side_over}
 use Rattle.scr_spec.specs.Sorts.{is_sort, variable_sort, variable_range}
 use Rattle.scr_spec.specs.Typed.{side_sort}
 use Rattle.scr_spec.specs.Formed.{is_unprimed}
@@ -26,10 +25,8 @@ use Rattle.scr_names.specs.declared.meaning.Meaning.{Meaning}
 use Rattle.scr_names.specs.declared.meaning.Meaning.TheVariants as m
 use Rattle.scr_names.specs.declared.known.Known.{Known}
 use Rattle.scr_names.specs.Meanings.{seen, meant, operand_meant, variable_meant, variable_named}
-use Rattle.scr_names.specs.Sides.{or_one, operand_of, item_of, side_of, draft_sort, is_primed_operand, is_primed, takes_primes, is_narrow_side, is_typed_value, is_variable_operand, is_variable_item, has_variable, items_value, is_value_within}
-use Rattle.scr_names.proofs.There.{NamesThere}
+use Rattle.scr_names.specs.Sides.{or_one, operand_of, item_of, side_of, draft_sort, is_primed_operand, is_primed, takes_primes, is_typed_value, is_variable_operand, is_variable_item, has_variable, items_value, is_value_within}
 use Rattle.scr_names.proofs.KeptTypes.{side_sort_kept}
-use Rattle.scr_names.proofs.KeptOver.{side_over_kept}
 use Rattle.scr_names.proofs.KeptForms.{meaning_unprimed, side_formed_kept}
 
 -- ---- the sort
@@ -113,40 +110,3 @@ value_kept known h v side has spelt within typed inside =
     (and_true _ _ (side_formed_kept known true side spelt within) (value_sorted known side (variable_sort known.types known.variables v) (p.0)))
     (value_primed known h side has (p.1)))
     (value_inside known side (variable_range known.types known.variables v) inside)
-
--- ---- the values of a line
-
--- the values of a line that has no fault
-pub record ValuesTests (known : Known) (h : Heading) (v : ℕ) (sides : List DraftSide) : Type 0 where
-  pub spelt : list_all (is_side_spelt true) sides ≡ true
-  pub within : list_all is_side_within sides ≡ true
-  pub typed : list_all (is_typed_value known h v) sides ≡ true
-  pub inside : list_all (is_value_within known v) sides ≡ true
-  pub narrow : list_all (is_narrow_side known) sides ≡ true
-
-of_rest_values : (known : Known) (h : Heading) (v : ℕ) (x : DraftSide) (xs : List DraftSide) → ValuesTests known h v (x ∷ xs) → ValuesTests known h v xs
-of_rest_values known h v x xs t = record {
-  spelt = (and_parts (is_side_spelt true x) (list_all (is_side_spelt true) xs) t.spelt).1;
-  within = (and_parts (is_side_within x) (list_all is_side_within xs) t.within).1;
-  typed = (and_parts (is_typed_value known h v x) (list_all (is_typed_value known h v) xs) t.typed).1;
-  inside = (and_parts (is_value_within known v x) (list_all (is_value_within known v) xs) t.inside).1;
-  narrow = (and_parts (is_narrow_side known x) (list_all (is_narrow_side known) xs) t.narrow).1;
-}
-
-pub values_sound : (known : Known) (h : Heading) (v : ℕ) → has_values h ≡ true → (xs : List DraftSide) → ValuesTests known h v xs
-    → list_all (spec.is_value_sound (seen known) h v) (map (side_of known) xs) ≡ true
-values_sound known h v has [] t = refl
-values_sound known h v has (x ∷ xs) t =
-    let s = and_parts (is_side_spelt true x) (list_all (is_side_spelt true) xs) t.spelt in
-    let w = and_parts (is_side_within x) (list_all is_side_within xs) t.within in
-    let y = and_parts (is_typed_value known h v x) (list_all (is_typed_value known h v) xs) t.typed in
-    let i = and_parts (is_value_within known v x) (list_all (is_value_within known v) xs) t.inside in
-    and_true _ _ (value_kept known h v x has (s.0) (w.0) (y.0) (i.0)) (values_sound known h v has xs (of_rest_values known h v x xs t))
-
-pub values_over : (known : Known) → NamesThere known → (h : Heading) (v : ℕ) (xs : List DraftSide) → ValuesTests known h v xs
-    → list_all (is_side_over (seen known)) (map (side_of known) xs) ≡ true
-values_over known there h v [] t = refl
-values_over known there h v (x ∷ xs) t =
-    let s = and_parts (is_side_spelt true x) (list_all (is_side_spelt true) xs) t.spelt in
-    let n = and_parts (is_narrow_side known x) (list_all (is_narrow_side known) xs) t.narrow in
-    and_true _ _ (side_over_kept known there true x (s.0) (n.0)) (values_over known there h v xs (of_rest_values known h v x xs t))
