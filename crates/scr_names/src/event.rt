@@ -158,10 +158,7 @@ impl Known {
     fn variable_of_change(&self, name: &Name) -> usize
         ensures { result ≡ spec.changing self.now name.now }
     {
-        match self.variable_named(name) {
-            Some(v) => v,
-            None => 0,
-        }
+        self.variable_named(name).unwrap_or(0)
     }
 
     fn change_of(&self, alloc: Global, change: &DraftChange) -> Result<Change, NoMemory>

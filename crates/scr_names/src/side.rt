@@ -99,10 +99,7 @@ impl Known {
     pub(crate) fn operand_of(&self, operand: &DraftOperand) -> Operand
         ensures { result ≡ spec.operand_of self.now operand.now }
     {
-        match self.operand_named(operand) {
-            Some(operand) => operand,
-            None => Operand::One,
-        }
+        self.operand_named(operand).unwrap_or(Operand::One)
     }
 
     fn item_of(&self, item: &DraftItem) -> Item
