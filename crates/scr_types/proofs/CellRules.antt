@@ -1,13 +1,12 @@
 -- The cells of each table are of its kind, and its columns have values.
-use Rattle.std.proofs.Common.{◌≡◌, ℕ, suc, ◌+◌, ◌≤◌, ℤ, Bool, true, false, ◌&&◌, if◌then◌else◌, List, [], ◌∷◌, ◌++◌, map, length, refl, sym, ap, subst, ◌∙◌, arith}
-use Rattle.std.specs.Prelude.{nat_eq, nat_le}
+use Rattle.std.proofs.Common.{◌≡◌, ◌≤◌, ℤ, Bool, true, false, ◌&&◌, if◌then◌else◌, List, [], ◌∷◌, ◌++◌, map, length, refl, sym, subst, ◌∙◌, arith}
+use Rattle.std.specs.Prelude.{nat_le}
 use Rattle.std.specs.Ordering.{int_eq}
 use Rattle.std.specs.List.{list_all}
-use Rattle.std.proofs.lemmas.Bool.{and_parts, leb-true, le-leb, eqb-true, eq-eqb}
+use Rattle.std.proofs.lemmas.Bool.{and_parts, leb-true, le-leb}
 use Rattle.std.proofs.lemmas.List.{length-append, length-map}
 use Rattle.std.proofs.lemmas.List.Folds.{list_all-append}
 use Rattle.scr_spec.specs.Data.{Data}
-use Rattle.scr_spec.specs.declared.cond.Expr.{Expr}
 use Rattle.scr_spec.specs.declared.table.Primitive.{Primitive}
 use Rattle.scr_spec.specs.declared.table.Cell.{Cell}
 use Rattle.scr_spec.specs.declared.table.Cell.TheVariants as cell
@@ -17,29 +16,22 @@ use Rattle.scr_spec.specs.declared.table.Heading.TheVariants as h
 use Rattle.scr_spec.specs.declared.table.Row.{Row}
 use Rattle.scr_spec.specs.declared.table.Table.{Table}
 use Rattle.scr_spec.specs.Formed.{is_prim_formed, is_event_formed}
-use Rattle.scr_spec.specs.Tables.{is_cell_formed, is_row_formed, are_cells_formed, has_width, is_laid_out, is_layout_sound}
+use Rattle.scr_spec.specs.Tables.{is_cell_formed, is_row_formed, are_cells_formed}
 use Rattle.scr_spec.proofs.Passing.{and_true}
 use Rattle.scr_reader.specs.declared.draft.DraftCell.{DraftCell}
 use Rattle.scr_reader.specs.declared.draft.DraftCell.TheVariants as drawn
-use Rattle.scr_reader.specs.declared.draft.Statement.TheVariants as s
 use Rattle.scr_reader.specs.declared.place.Place.{Place}
-use Rattle.scr_reader.specs.declared.place.Place.TheVariants as p
 use Rattle.scr_reader.specs.declared.place.Counts.{Counts}
-use Rattle.scr_reader.specs.Limits.{is_count_within, counted}
 use Rattle.scr_reader.specs.Readable.{is_cell_spelt, is_cell_of}
 use Rattle.scr_names.proofs.KeptForms.{some_all, some_one}
 use Rattle.scr_names.proofs.KeptCells.{event_formed_kept}
-use Rattle.scr_names.proofs.KeptValues.{has_values}
 use Rattle.scr_names.specs.declared.known.Known.{Known}
 use Rattle.scr_names.specs.Names.{Name}
-use Rattle.scr_names.specs.Sides.{side_of}
 use Rattle.scr_names.specs.Events.{event_of, cell_of}
-use Rattle.scr_types.specs.Tables.{is_count, are_modes_placed}
-use Rattle.scr_types.specs.Built.{mode_code, joined, cells_with, row_with, row_from, row_of, rows_with}
+use Rattle.scr_types.specs.Built.{mode_code, joined, cells_with, row_with, row_of, rows_with}
 use Rattle.scr_types.proofs.Grown.{push_all}
-use Rattle.scr_types.proofs.Transitions.{cells_all, rows_all, cell_count, rows_more}
-use Rattle.scr_types.proofs.CountsKept.{few_rows}
-use Rattle.scr_types.proofs.TableRules.{At, TableRule}
+use Rattle.scr_types.proofs.Transitions.{cells_all, rows_all}
+use Rattle.scr_types.proofs.TableRules.{TableRule}
 use Rattle.scr_types.proofs.Told.{row_spelt, transition_tests}
 
 -- ---- cells
@@ -98,14 +90,14 @@ pub cells_rule : TableRule (λ spec. are_cells_formed) Formed
 cells_rule = record {
   head = λ place counts known heading n class t b. refl;
   row = λ place counts known t heading modes cells i j l at o.
-    let spelt = row_spelt modes cells at.read.spelt in
-    push_all (is_row_formed t.heading) t.rows (row_of known modes cells) o
-    (subst (λ q. is_row_formed q (row_of known modes cells) ≡ true) (sym i) (row_made known heading modes cells l (some_all is_cell_spelt cells spelt) (some_one is_cell_spelt cells spelt)));
+      let spelt = row_spelt modes cells at.read.spelt in
+      push_all (is_row_formed t.heading) t.rows (row_of known modes cells) o
+      (subst (λ q. is_row_formed q (row_of known modes cells) ≡ true) (sym i) (row_made known heading modes cells l (some_all is_cell_spelt cells spelt) (some_one is_cell_spelt cells spelt)));
   values = λ counts known t heading sides at o. o;
   transition = λ counts known t source target e at o.
-    let formed = event_formed_kept known e (transition_tests _ _ counts known t source target e at).spelt in
-    subst (λ q. list_all (is_row_formed q) (rows_with (mode_code known source) (mode_code known target) (event_of known e) t.rows) ≡ true) (sym at.here.at.0)
-    (rows_all (is_row_formed h.Modes) (mode_code known source) (mode_code known target) (event_of known e) (λ row has g. row_more (mode_code known target) (event_of known e) row formed g)
-    (and_true _ _ refl (and_true _ _ formed refl)) t.rows (subst (λ q. list_all (is_row_formed q) t.rows ≡ true) at.here.at.0 o));
+      let formed = event_formed_kept known e (transition_tests _ _ counts known t source target e at).spelt in
+      subst (λ q. list_all (is_row_formed q) (rows_with (mode_code known source) (mode_code known target) (event_of known e) t.rows) ≡ true) (sym at.here.at.0)
+      (rows_all (is_row_formed h.Modes) (mode_code known source) (mode_code known target) (event_of known e) (λ row has g. row_more (mode_code known target) (event_of known e) row formed g)
+      (and_true _ _ refl (and_true _ _ formed refl)) t.rows (subst (λ q. list_all (is_row_formed q) t.rows ≡ true) at.here.at.0 o));
   close = λ place counts known t i at o. o;
 }

@@ -1,6 +1,5 @@
 -- Each column of a condition or event table has a value, and the cells of a mode table are no more than its lines.
-use Rattle.std.proofs.Common.{◌≡◌, ℕ, suc, ◌+◌, ◌≤◌, Bool, true, false, ◌&&◌, List, [], ◌∷◌, ◌++◌, map, length, Option, Some, None, refl, sym, ap, subst, ◌∙◌, arith}
-use Rattle.std.specs.Prelude.{nat_eq, nat_le}
+use Rattle.std.proofs.Common.{◌≡◌, ℕ, ◌≤◌, Bool, true, false, ◌&&◌, List, [], ◌∷◌, ◌++◌, length, Some, refl, sym, ap, subst, ◌∙◌, arith}
 use Rattle.std.specs.Option.{option_map_or}
 use Rattle.std.specs.List.{list_all}
 use Rattle.std.proofs.lemmas.Bool.{and_parts, leb-true, le-leb, eqb-true, eq-eqb}
@@ -15,11 +14,10 @@ use Rattle.scr_spec.specs.Tables.{has_width, is_laid_out, is_layout_sound}
 use Rattle.scr_spec.proofs.Passing.{and_true}
 use Rattle.scr_reader.specs.declared.draft.DraftCell.{DraftCell}
 use Rattle.scr_reader.specs.declared.draft.DraftSide.{DraftSide}
-use Rattle.scr_reader.specs.declared.draft.Statement.TheVariants as s
 use Rattle.scr_reader.specs.declared.place.Place.{Place}
 use Rattle.scr_reader.specs.declared.place.Place.TheVariants as p
 use Rattle.scr_reader.specs.declared.place.Counts.{Counts}
-use Rattle.scr_reader.specs.Limits.{is_count_within, counted}
+use Rattle.scr_reader.specs.Limits.{is_count_within}
 use Rattle.scr_reader.specs.Forms.{may_end}
 use Rattle.scr_reader.specs.Readable.{head_place}
 use Rattle.scr_names.proofs.KeptValues.{has_values}
@@ -28,12 +26,12 @@ use Rattle.scr_names.specs.Names.{Name}
 use Rattle.scr_names.specs.Sides.{side_of}
 use Rattle.scr_names.specs.Events.{event_of, cell_of}
 use Rattle.scr_types.specs.Tables.{is_count, are_modes_placed, is_row_placed, are_values_placed}
-use Rattle.scr_types.specs.Built.{mode_code, row_of, rows_with}
+use Rattle.scr_types.specs.Built.{mode_code, row_of}
 use Rattle.scr_types.proofs.Grown.{push_all}
 use Rattle.scr_types.proofs.Transitions.{cell_count, rows_more}
 use Rattle.scr_types.proofs.CountsKept.{few_rows}
-use Rattle.scr_types.proofs.Opened.{IsOpenAt, Here, apart}
-use Rattle.scr_types.proofs.TableRules.{At, TableRule}
+use Rattle.scr_types.proofs.Opened.{IsOpenAt, apart}
+use Rattle.scr_types.proofs.TableRules.{TableRule}
 use Rattle.scr_types.proofs.Told.{right}
 
 -- the values stand
@@ -73,7 +71,7 @@ width_more (r ∷ rows) row m n e c w i =
 row_counts : (known : Known) (t : Table) (modes : List Name) (cells : List DraftCell) → known.current ≡ Some t → is_row_placed known modes cells ≡ true → is_count t.rows (length cells) ≡ true
 row_counts known t modes cells e i =
     let here : (are_modes_placed t.class t.rows modes && is_count t.rows (length cells)) ≡ true =
-        sym (ap (λ o. option_map_or (λ (u : Table). are_modes_placed u.class u.rows modes && is_count u.rows (length cells)) o true) e) ∙ i in
+    sym (ap (λ o. option_map_or (λ (u : Table). are_modes_placed u.class u.rows modes && is_count u.rows (length cells)) o true) e) ∙ i in
     (and_parts (are_modes_placed t.class t.rows modes) (is_count t.rows (length cells)) here).1
 
 values_count : (known : Known) (t : Table) (sides : List DraftSide) → known.current ≡ Some t → are_values_placed known sides ≡ true → is_count t.rows (length sides) ≡ true
@@ -106,8 +104,8 @@ layout_rule = record {
   head = λ place counts known heading n class t b. record { widths = λ v k i. refl; valued = λ i. apart i (head_unclosed heading); few = λ i. omega arith; counts_within = t.few };
   row = λ place counts known t heading modes cells i v l at o. record {
     widths = λ w k j.
-      width_more t.rows (row_of known modes cells) (length cells) k (length-map cells (cell_of known))
-      (row_counts known t modes cells at.here.is (right place known t at.here (is_row_placed known modes cells) at.read.passes.table)) (o.widths w k) j;
+        width_more t.rows (row_of known modes cells) (length cells) k (length-map cells (cell_of known))
+        (row_counts known t modes cells at.here.is (right place known t at.here (is_row_placed known modes cells) at.read.passes.table)) (o.widths w k) j;
     valued = λ j. apart j refl;
     few = λ j. modes_apart t.heading j (subst (λ q. has_values q ≡ true) (sym i) v);
     counts_within = at.read.few;
@@ -115,8 +113,8 @@ layout_rule = record {
   values = λ counts known t heading sides at o. record {
     widths = o.widths;
     valued = λ j.
-      subst (λ k. is_count t.rows k ≡ true) (sym (length-map sides (side_of known)))
-      (values_count known t sides at.here.is (right _ known t at.here (are_values_placed known sides) at.read.passes.table));
+        subst (λ k. is_count t.rows k ≡ true) (sym (length-map sides (side_of known)))
+        (values_count known t sides at.here.is (right _ known t at.here (are_values_placed known sides) at.read.passes.table));
     few = o.few;
     counts_within = at.read.few;
   };

@@ -1,7 +1,5 @@
 -- A condition table over a class names each of its modes.
-use Rattle.std.proofs.Common.{◌≡◌, ℕ, ◌+◌, pos, Bool, true, false, ◌&&◌, List, [], ◌∷◌, length, Option, Some, None, refl, sym, ap, subst, ◌∙◌}
-use Rattle.std.specs.Prelude.{if◌then◌else◌}
-use Rattle.std.specs.Option.{option_map_or, option_and_then}
+use Rattle.std.proofs.Common.{◌≡◌, ℕ, ◌+◌, pos, true, List, [], ◌∷◌, length, Option, Some, None, refl, ◌∙◌}
 use Rattle.std.specs.List.{list_all, range_with_len}
 use Rattle.scr_spec.specs.Data.{Data}
 use Rattle.scr_spec.specs.declared.table.Heading.{Heading}
@@ -9,7 +7,7 @@ use Rattle.scr_spec.specs.declared.table.Heading.TheVariants as h
 use Rattle.scr_spec.specs.declared.table.Row.{Row}
 use Rattle.scr_spec.specs.declared.table.Table.{Table}
 use Rattle.scr_spec.specs.Over.{modes_of}
-use Rattle.scr_spec.specs.RowModes.{is_named, are_all_named, is_complete_under, is_complete}
+use Rattle.scr_spec.specs.RowModes.{is_named, is_complete_under, is_complete}
 use Rattle.scr_spec.proofs.Passing.{and_true}
 use Rattle.scr_reader.specs.declared.place.Place.{Place}
 use Rattle.scr_reader.specs.declared.place.Counts.{Counts}
@@ -18,18 +16,15 @@ use Rattle.scr_names.specs.Names.{Name}
 use Rattle.scr_names.specs.Meanings.{seen}
 use Rattle.scr_types.specs.Tables.{is_used, first_missing, missing_in}
 use Rattle.scr_types.proofs.RowModes.{used_named}
+use Rattle.scr_types.proofs.ModesKept.{taken}
 use Rattle.scr_types.proofs.CurrentTable.{none_missing}
 use Rattle.scr_types.proofs.Opened.{core}
 use Rattle.scr_types.proofs.TableRules.{TableRule}
 
-used_here : (b : Bool) (n : Name) (o : Option Name) → (if b then o else Some n) ≡ None → (b ≡ true) × (o ≡ None)
-used_here true n o h = (refl, h)
-used_here false n o h = absurd (cc)
-
 all_used : (rows : List Row) (place : ℕ) (names : List Name) → first_missing rows place names ≡ None → list_all (λ i. is_named rows (pos i)) (range_with_len place (length names)) ≡ true
 all_used rows place [] h = refl
 all_used rows place (n ∷ ns) h =
-    let used = used_here (is_used rows (pos place)) n (first_missing rows (place + 1) ns) h in
+    let used = taken n (is_used rows (pos place)) (first_missing rows (place + 1) ns) h in
     and_true _ _ (used_named rows (pos place) ∙ used.0) (all_used rows (place + 1) ns used.1)
 
 complete_over : (known : Known) (class : Option ℕ) (rows : List Row) → missing_in known h.Condition class rows ≡ None → is_complete_under (core known) h.Condition class rows ≡ true

@@ -1,5 +1,5 @@
 -- The conditions of each table keep the rules on conditions.
-use Rattle.std.proofs.Common.{◌≡◌, Bool, true, ◌&&◌, List, [], ◌∷◌, ◌++◌, map, refl, ◌∙◌}
+use Rattle.std.proofs.Common.{◌≡◌, Bool, true, List, [], ◌∷◌, map, refl, ◌∙◌}
 use Rattle.std.specs.List.{list_all}
 use Rattle.std.proofs.lemmas.List.Folds.{list_all-append}
 use Rattle.scr_spec.specs.Data.{Data}
@@ -7,7 +7,6 @@ use Rattle.scr_spec.specs.declared.cond.Cond.{Cond}
 use Rattle.scr_spec.specs.declared.table.Cell.{Cell}
 use Rattle.scr_spec.specs.declared.table.Cell.TheVariants as cell
 use Rattle.scr_spec.specs.declared.table.Event.{Event}
-use Rattle.scr_spec.specs.declared.table.Row.{Row}
 use Rattle.scr_spec.specs.declared.table.Table.{Table}
 use Rattle.scr_spec.specs.Typed.{is_cond_typed}
 use Rattle.scr_spec.specs.Parts.{sides_pass, prim_passes, cell_passes, row_passes, conds_pass}
@@ -21,7 +20,7 @@ use Rattle.scr_reader.specs.declared.place.Counts.{Counts}
 use Rattle.scr_names.proofs.KeptCells.{EventTests, CellTests, cell_sound, event_sound}
 use Rattle.scr_names.specs.declared.known.Known.{Known}
 use Rattle.scr_names.specs.Events.{event_of, cell_of}
-use Rattle.scr_types.specs.Built.{joined, row_with, row_from, row_of, mode_code}
+use Rattle.scr_types.specs.Built.{joined, row_of, mode_code}
 use Rattle.scr_types.proofs.Grown.{push_all}
 use Rattle.scr_types.proofs.Transitions.{cells_all, rows_all}
 use Rattle.scr_types.proofs.Opened.{core}
@@ -50,14 +49,14 @@ pub conds_rule : (p : Data → Cond → Bool) → LineKeeps p → TableRule (λ 
 conds_rule p k = record {
   head = λ place counts known heading n class t b. refl;
   row = λ place counts known t heading modes cells i j l at o.
-    push_all (row_passes (p (core known))) t.rows (row_of known modes cells) o (cells_pass p k known cells (row_tests place _ counts known t modes cells at));
+      push_all (row_passes (p (core known))) t.rows (row_of known modes cells) o (cells_pass p k known cells (row_tests place _ counts known t modes cells at));
   values = λ counts known t heading sides at o. o;
   transition = λ counts known t source target e at o.
-    let passes = k.each_event known e (transition_tests _ _ counts known t source target e at) in
-    rows_all (row_passes (p (core known))) (mode_code known source) (mode_code known target) (event_of known e)
-    (λ row has h.
-    cells_all (cell_passes (p (core known))) (mode_code known target) (event_of known e) (λ c g. joined_pass (p (core known)) (event_of known e) c passes g) passes row.targets row.cells h)
-    (and_true _ _ passes refl) t.rows o;
+      let passes = k.each_event known e (transition_tests _ _ counts known t source target e at) in
+      rows_all (row_passes (p (core known))) (mode_code known source) (mode_code known target) (event_of known e)
+      (λ row has h.
+      cells_all (cell_passes (p (core known))) (mode_code known target) (event_of known e) (λ c g. joined_pass (p (core known)) (event_of known e) c passes g) passes row.targets row.cells h)
+      (and_true _ _ passes refl) t.rows o;
   close = λ place counts known t i at o. o;
 }
 

@@ -1,19 +1,13 @@
 -- What the rules of a line say of the table whose lines are read now.
-use Rattle.std.proofs.Common.{◌≡◌, ℕ, Bool, true, false, not, ◌&&◌, List, [], length, Option, Some, None, refl, sym, ap, ◌∙◌}
-use Rattle.std.specs.Prelude.{if◌then◌else◌, slice_get}
-use Rattle.std.specs.Option.{option_map, option_map_or, option_and_then}
+use Rattle.std.proofs.Common.{◌≡◌, ℕ, true, false, not, ◌&&◌, List, [], length, Some, None, sym, ap, ◌∙◌}
+use Rattle.std.specs.Option.{option_map_or, option_and_then}
 use Rattle.std.specs.Str.{bytes_eq}
-use Rattle.scr_spec.specs.Tables.{is_headed, is_head_sound}
-use Rattle.scr_spec.specs.declared.spec.Variable.{Variable}
-use Rattle.scr_spec.specs.declared.table.Row.{Row}
-use Rattle.scr_spec.specs.declared.table.Heading.{Heading}
 use Rattle.scr_spec.specs.declared.table.Table.{Table}
 use Rattle.scr_reader.specs.declared.draft.DraftCell.{DraftCell}
 use Rattle.scr_names.specs.declared.known.Known.{Known}
 use Rattle.scr_names.specs.Names.{Name}
-use Rattle.scr_names.specs.First.{unless}
-use Rattle.scr_types.specs.Tables.{told, current_class, current_rows, is_mode, first_bad, bad_mode, bad_change, bad_transition, missing_in, missing_mode, is_count, are_modes_placed, is_row_placed}
-use Rattle.scr_types.proofs.Opened.{core}
+use Rattle.scr_types.specs.Tables.{current_class, current_rows, is_mode, first_bad, bad_mode, bad_change, bad_transition, missing_in, missing_mode, is_count, are_modes_placed, is_row_placed}
+use Rattle.scr_types.proofs.RowModes.{not_true}
 use Rattle.scr_types.proofs.Passes.{first_none, second_none, unless_none}
 
 -- ---- its class and its rows
@@ -40,17 +34,13 @@ pub record IsChange (known : Known) (v : ℕ) (source target : Name) : Type 0 wh
   pub to : is_mode known v target ≡ true
   pub differ : bytes_eq source target ≡ false
 
-not_false : (b : Bool) → not b ≡ true → b ≡ false
-not_false true h = absurd (cc)
-not_false false h = refl
-
 change_by : (known : Known) (v : ℕ) (source target : Name) → bad_change known v source target ≡ None → IsChange known v source target
 change_by known v source target h =
     let rest = second_none _ _ h in
     record {
       from = unless_none (is_mode known v source) source (first_none _ _ h);
       to = unless_none (is_mode known v target) target (first_none _ _ rest);
-      differ = not_false (bytes_eq source target) (unless_none (not (bytes_eq source target)) source (second_none _ _ rest));
+      differ = not_true (bytes_eq source target) (unless_none (not (bytes_eq source target)) source (second_none _ _ rest));
     }
 
 pub is_change : (known : Known) (v : ℕ) (source target : Name) → current_class known ≡ Some v → bad_transition known source target ≡ None → IsChange known v source target

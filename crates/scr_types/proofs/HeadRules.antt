@@ -1,5 +1,4 @@
 -- Each table stands at a variable for such a table, and its class is a mode class.
-use Rattle.std.proofs.Common.{◌≡◌}
 use Rattle.scr_spec.specs.Data.{Data}
 use Rattle.scr_spec.specs.declared.table.Table.{Table}
 use Rattle.scr_spec.specs.Tables.{is_head_sound, is_class_sound}

@@ -20,6 +20,7 @@ pub mod OverRules
 pub mod Passes
 pub mod RowModes
 pub mod Small
+pub mod Sound
 pub mod Steps
 pub mod TableRules
 pub mod TabledKept

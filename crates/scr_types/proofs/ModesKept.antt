@@ -1,5 +1,5 @@
 -- The modes that a row names are modes of the class, and none is named twice.
-use Rattle.std.proofs.Common.{◌≡◌, ℕ, ℤ, pos, Bool, true, false, not, ◌&&◌, ◌||◌, if◌then◌else◌, List, [], ◌∷◌, ◌++◌, map, length, append_assoc, refl, sym, ap, subst, ◌∙◌, ◌≤◌, arith}
+use Rattle.std.proofs.Common.{◌≡◌, ℕ, ℤ, pos, Bool, true, false, not, ◌&&◌, ◌||◌, if◌then◌else◌, List, [], ◌∷◌, ◌++◌, map, append_assoc, refl, sym, ap, subst, ◌∙◌, arith}
 use Rattle.std.specs.Prelude.{nat_eq, nat_le, unsigned_abs, is_some, slice_get, Option, Some, None, unwrap_or}
 use Rattle.std.specs.Option.{option_map_or, option_and_then}
 use Rattle.std.specs.Ordering.{int_eq}
@@ -22,7 +22,7 @@ use Rattle.scr_names.specs.Meanings.{seen, meant}
 use Rattle.scr_types.specs.Tables.{mode_of, mode_meant, mode_named, is_used, is_free, is_mode, first_bad, current_rows}
 use Rattle.scr_types.proofs.Grown.{push_all, there_get}
 use Rattle.scr_types.proofs.NamesAt.{is_at_place, is_at, NamesAt, meant_at, same_bytes, bytes_same}
-use Rattle.scr_types.proofs.RowModes.{false_not, not_true, neither, or_false, same_code, code_same, distinct_push}
+use Rattle.scr_types.proofs.RowModes.{not_true, neither, or_false, same_code, distinct_push}
 
 -- ---- a mode stands at its place
 
@@ -74,7 +74,7 @@ code_in known v n = option_map_or pos (mode_named known v n) (pos 0)
 pub code_is : (known : Known) (v : ℕ) (n : Name) (p : ℕ) → mode_named known v n ≡ Some p → code_in known v n ≡ pos p
 code_is known v n p e = ap (λ o. option_map_or pos o (pos 0)) e
 
-there_is : {X : Type 0} (o : Option X) → is_some o ≡ true → (x : X) × (o ≡ Some x)
+pub there_is : {X : Type 0} (o : Option X) → is_some o ≡ true → (x : X) × (o ≡ Some x)
 there_is None h = absurd (cc)
 there_is (Some x) h = (x, refl)
 
@@ -109,7 +109,7 @@ fresh known at v n (b ∷ before) h k e =
 
 -- ---- the modes of a row
 
-taken : (n : Name) (b : Bool) (o : Option Name) → (if b then o else Some n) ≡ None → (b ≡ true) × (o ≡ None)
+pub taken : (n : Name) (b : Bool) (o : Option Name) → (if b then o else Some n) ≡ None → (b ≡ true) × (o ≡ None)
 taken n true o e = (refl, e)
 taken n false o e = absurd (cc)
 
@@ -130,16 +130,18 @@ row_modes known at v before (n ∷ ns) xs e distinct same modes =
     let code = code_in known v n in
     let used : is_used (current_rows known) code ≡ false = ap (is_used (current_rows known)) (code_is known v n found.0 found.1) ∙ found.2 in
     let new : list_any (int_eq code) xs ≡ false = same code ∙ neither _ _ used (fresh known at v n before is_one modes (not_true (list_any (bytes_eq n) before) free.1)) in
-    let more = row_modes known at v (before ++ n ∷ []) ns (xs ++ code ∷ []) choice.1 (distinct_push xs code distinct new) (λ c. again c) (push_all (is_mode known v) before n modes is_one) in
-    (sym (ap (are_distinct int_eq) (append_assoc xs (code ∷ []) (map (code_in known v) ns))) ∙ more.0,
-     and_true _ _ (ap (is_place (modes_of (seen known) v)) (code_is known v n found.0 found.1) ∙ place_is known at v n found.0 found.1) more.1)
+    let more = row_modes known at v (before ++ n ∷ []) ns (xs ++ code ∷ []) choice.1 (distinct_push xs code distinct new) (λ c. again c) (push_all (is_mode known v) before n modes is_one) in (
+      sym (ap (are_distinct int_eq) (append_assoc xs (code ∷ []) (map (code_in known v) ns))) ∙ more.0,
+      and_true _ _ (ap (is_place (modes_of (seen known) v)) (code_is known v n found.0 found.1) ∙ place_is known at v n found.0 found.1) more.1,
+    )
   where
     regroup : (a b c : Bool) → ((a || b) || c) ≡ (a || (b || c))
     regroup true b c = refl
     regroup false b c = refl
+
     again : (c : ℤ) → list_any (int_eq c) (xs ++ code_in known v n ∷ []) ≡ (is_used (current_rows known) c || list_any (int_eq c) (map (code_in known v) (before ++ n ∷ [])))
     again c =
         list_any-append (int_eq c) xs (code_in known v n ∷ []) ∙ ap (λ t. t || list_any (int_eq c) (code_in known v n ∷ [])) (same c)
         ∙ regroup (is_used (current_rows known) c) (list_any (int_eq c) (map (code_in known v) before)) (list_any (int_eq c) (code_in known v n ∷ []))
         ∙ ap (λ t. is_used (current_rows known) c || t)
-          (sym (ap (list_any (int_eq c)) (map-append (code_in known v) before (n ∷ [])) ∙ list_any-append (int_eq c) (map (code_in known v) before) (code_in known v n ∷ [])))
+        (sym (ap (list_any (int_eq c)) (map-append (code_in known v) before (n ∷ [])) ∙ list_any-append (int_eq c) (map (code_in known v) before) (code_in known v n ∷ [])))

@@ -1,16 +1,15 @@
 -- The rows of a table name modes of its class, and none twice; without a class there is one row, without modes.
-use Rattle.std.proofs.Common.{◌≡◌, ℕ, suc, ◌≤◌, ℤ, pos, Bool, true, false, not, ◌&&◌, ◌||◌, List, [], ◌∷◌, ◌++◌, map, length, Option, Some, None, refl, sym, ap, subst, ◌∙◌, arith}
-use Rattle.std.specs.Prelude.{nat_eq, nat_le, is_some, slice_get}
+use Rattle.std.proofs.Common.{◌≡◌, ℕ, ℤ, pos, Bool, true, false, not, ◌&&◌, ◌||◌, List, [], ◌∷◌, ◌++◌, map, length, Option, Some, None, refl, sym, ap, subst, ◌∙◌, arith}
+use Rattle.std.specs.Prelude.{nat_eq, nat_le}
 use Rattle.std.specs.Option.{option_map_or, option_and_then}
 use Rattle.std.specs.Ordering.{int_eq}
-use Rattle.std.specs.List.{list_all, list_any, flat_map}
+use Rattle.std.specs.List.{list_all, list_any}
 use Rattle.std.proofs.lemmas.Bool.{and_parts, eqb-true, le-leb}
 use Rattle.std.proofs.lemmas.Grind.{flat_map-append}
 use Rattle.std.proofs.lemmas.List.{append-nil}
 use Rattle.std.proofs.lemmas.List.Folds.{list_all-append}
 use Rattle.scr_spec.specs.Data.{Data}
 use Rattle.scr_spec.specs.declared.table.Event.{Event}
-use Rattle.scr_spec.specs.declared.table.Heading.{Heading}
 use Rattle.scr_spec.specs.declared.table.Heading.TheVariants as h
 use Rattle.scr_spec.specs.declared.table.Row.{Row}
 use Rattle.scr_spec.specs.declared.table.Table.{Table}
@@ -27,14 +26,14 @@ use Rattle.scr_names.specs.Names.{Name}
 use Rattle.scr_names.specs.Meanings.{seen}
 use Rattle.scr_names.specs.Events.{event_of}
 use Rattle.scr_types.specs.Tables.{mode_named, is_used, is_mode, first_bad, current_class, current_rows, bad_mode, is_empty, is_count, are_modes_placed, is_row_placed}
-use Rattle.scr_types.specs.Built.{mode_code, row_of, row_with, rows_with}
+use Rattle.scr_types.specs.Built.{mode_code, row_of, rows_with}
 use Rattle.scr_types.proofs.Grown.{push_all}
 use Rattle.scr_types.proofs.NamesAt.{NamesAt}
 use Rattle.scr_types.proofs.Transitions.{rows_all}
 use Rattle.scr_types.proofs.RowModes.{used_named, rows_distinct, rows_placed}
-use Rattle.scr_types.proofs.ModesKept.{code_in, code_is, place_is, row_modes}
+use Rattle.scr_types.proofs.ModesKept.{there_is, code_in, code_is, place_is, row_modes}
 use Rattle.scr_types.proofs.Opened.{core}
-use Rattle.scr_types.proofs.CurrentTable.{class_now, rows_now, row_placed, no_bad, IsChange, is_change}
+use Rattle.scr_types.proofs.CurrentTable.{class_now, rows_now, row_placed, no_bad, is_change}
 use Rattle.scr_types.proofs.TableRules.{TableRule}
 use Rattle.scr_types.proofs.Told.{right}
 
@@ -45,10 +44,6 @@ same_codes known v ns e = ap (λ o. map (λ n. option_map_or pos (option_and_the
 
 pub same_code_now : (known : Known) (v : ℕ) (n : Name) → current_class known ≡ Some v → mode_code known n ≡ code_in known v n
 same_code_now known v n e = ap (λ o. option_map_or pos (option_and_then (λ u. mode_named known u n) o) (pos 0)) e
-
-there_is : {X : Type 0} (o : Option X) → is_some o ≡ true → (x : X) × (o ≡ Some x)
-there_is None h = absurd (cc)
-there_is (Some x) h = (x, refl)
 
 -- a mode of the class has a place in its list
 pub mode_placed : (known : Known) → NamesAt known → (v : ℕ) (n : Name) → current_class known ≡ Some v → is_mode known v n ≡ true → is_place (modes_of (seen known) v) (mode_code known n) ≡ true
@@ -101,10 +96,10 @@ some_row known at t v modes cells e c some bad h =
     let old = modes_parts (core known) v t.rows h in
     let codes = same_codes known v modes c in
     let same : (code : ℤ) → list_any (int_eq code) (named_modes t.rows) ≡ (is_used (current_rows known) code || false) =
-        λ code. used_named t.rows code ∙ ap (λ rows. is_used rows code) (sym (rows_now known t e)) ∙ or_nothing (is_used (current_rows known) code) in
+    λ code. used_named t.rows code ∙ ap (λ rows. is_used rows code) (sym (rows_now known t e)) ∙ or_nothing (is_used (current_rows known) code) in
     let new = row_modes known at v [] modes (named_modes t.rows) bad old.distinct same refl in
     let named : named_modes (t.rows ++ row_of known modes cells ∷ []) ≡ named_modes t.rows ++ map (code_in known v) modes =
-        named_more t.rows (row_of known modes cells) ∙ ap (λ ms. named_modes t.rows ++ ms) codes in
+    named_more t.rows (row_of known modes cells) ∙ ap (λ ms. named_modes t.rows ++ ms) codes in
     modes_whole (core known) v (t.rows ++ row_of known modes cells ∷ []) (record {
       some = push_all (λ (r : Row). nat_le 1 (length r.modes)) t.rows (row_of known modes cells) old.some (some_modes modes (mode_code known) some);
       placed = ap (list_all (is_place (modes_of (core known) v))) named ∙ append_all (is_place (modes_of (core known) v)) (named_modes t.rows) (map (code_in known v) modes) old.placed new.1;

@@ -1,10 +1,10 @@
 -- What each table names is there, and its rows and sides are within the limits.
-use Rattle.std.proofs.Common.{◌≡◌, ℕ, suc, ◌+◌, ◌<◌, ◌≤◌, ℤ, pos, Bool, true, false, ◌&&◌, if◌then◌else◌, List, [], ◌∷◌, ◌++◌, map, length, Option, Some, None, refl, sym, ap, subst, ◌∙◌, arith}
-use Rattle.std.specs.Prelude.{nat_eq, nat_lt, nat_le, int_le, int_lt, unsigned_abs, slice_get, sum_by}
+use Rattle.std.proofs.Common.{◌≡◌, ℕ, ◌<◌, ◌≤◌, ℤ, pos, Bool, true, false, ◌&&◌, if◌then◌else◌, List, [], ◌∷◌, ◌++◌, map, length, Option, Some, None, refl, sym, ap, subst, ◌∙◌, arith}
+use Rattle.std.specs.Prelude.{nat_eq, nat_lt, nat_le, int_le, int_lt, slice_get}
 use Rattle.std.specs.Option.{option_map_or, option_and_then}
 use Rattle.std.specs.Ordering.{int_eq}
 use Rattle.std.specs.List.{list_all, list_any}
-use Rattle.std.proofs.lemmas.Bool.{and_parts, leb-true, le-leb, ltb-true, eqb-true}
+use Rattle.std.proofs.lemmas.Bool.{and_parts, leb-true, le-leb, eqb-true}
 use Rattle.std.proofs.lemmas.Int.{ints}
 use Rattle.std.proofs.lemmas.List.{length-append, length-map}
 use Rattle.std.proofs.lemmas.List.Folds.{list_all-append}
@@ -25,17 +25,15 @@ use Rattle.scr_spec.specs.Roles.{is_class_role}
 use Rattle.scr_spec.specs.Types.{is_narrow, is_list_sound, is_kind_sound, kind_modes}
 use Rattle.scr_spec.specs.Over.{is_place, is_side_over}
 use Rattle.scr_spec.specs.Events.{is_prim_over, is_event_over}
-use Rattle.scr_spec.specs.Cells.{is_cell_over, is_class_over, is_row_over, greatest_width, is_small, is_table_over}
+use Rattle.scr_spec.specs.Cells.{is_cell_over, is_class_over, is_row_over, greatest_width, is_table_over}
 use Rattle.scr_spec.specs.Tables.{is_headed, is_class_at, is_over_class}
 use Rattle.scr_spec.specs.NameSpace.{is_name}
 use Rattle.scr_spec.proofs.Passing.{and_true}
 use Rattle.scr_reader.specs.declared.draft.DraftCell.{DraftCell}
 use Rattle.scr_reader.specs.declared.draft.DraftSide.{DraftSide}
-use Rattle.scr_reader.specs.declared.draft.Statement.TheVariants as s
 use Rattle.scr_reader.specs.declared.place.Place.{Place}
-use Rattle.scr_reader.specs.declared.place.Place.TheVariants as p
 use Rattle.scr_reader.specs.declared.place.Counts.{Counts}
-use Rattle.scr_reader.specs.Limits.{is_count_within, is_cell_within}
+use Rattle.scr_reader.specs.Limits.{is_count_within}
 use Rattle.scr_reader.specs.Readable.{are_some, is_cell_spelt, is_side_spelt}
 use Rattle.scr_names.proofs.There.{is_there, NamesThere, meant_there}
 use Rattle.scr_names.proofs.KeptForms.{some_all}
@@ -50,13 +48,13 @@ use Rattle.scr_names.specs.Meanings.{seen, meant}
 use Rattle.scr_names.specs.Sides.{is_narrow_side, side_of}
 use Rattle.scr_names.specs.Events.{event_of, cell_of}
 use Rattle.scr_types.specs.Tables.{mode_meant, mode_named, current_class}
-use Rattle.scr_types.specs.Built.{mode_code, joined, cells_with, targets_with, row_with, row_from, row_of}
+use Rattle.scr_types.specs.Built.{mode_code, joined, targets_with, row_with, row_of}
 use Rattle.scr_types.proofs.Grown.{there_get, no_place, push_all, all_at}
 use Rattle.scr_types.proofs.Transitions.{cells_all, rows_all, cell_count, rows_more, rows_longer}
 use Rattle.scr_types.proofs.CountsKept.{few_rows}
 use Rattle.scr_types.proofs.VariablesKept.{is_kept, kept_parts, VariablesKept}
-use Rattle.scr_types.proofs.Opened.{core, Here, apart}
-use Rattle.scr_types.proofs.TableRules.{At, TableRule}
+use Rattle.scr_types.proofs.Opened.{core, Here}
+use Rattle.scr_types.proofs.TableRules.{TableRule}
 use Rattle.scr_types.proofs.Told.{AllTested, no_cell, cell_more, right, row_tests, transition_tests}
 use Rattle.scr_types.proofs.ColumnRules.{modes_apart}
 
@@ -192,18 +190,18 @@ pub over_rule : TableRule is_table_over Over
 over_rule = record {
   head = λ place counts known heading n class t b. record { rows = refl; values = refl; widths = λ v. refl; cells = λ e. omega arith; lines = omega arith; counts_within = t.few };
   row = λ place counts known t heading modes cells i v l at o.
-    let spelt = and_parts (list_all is_name modes && are_some is_cell_spelt cells) (nat_le (length cells) 16) at.read.spelt in
-    let more = length-append t.rows (row_of known modes cells ∷ []) in
-    let before = o.lines in
-    record {
-      rows = push_all (is_row_over (core known)) t.rows (row_of known modes cells) o.rows
-          (and_true _ _ (and_true _ _ (cells_over known at.base.variables.names cells (row_tests place _ counts known t modes cells at)) (modes_narrow known at.base.variables modes)) refl);
-      values = o.values;
-      widths = λ w. push_all (fits 16) t.rows (row_of known modes cells) (o.widths w) (ap (λ k. nat_le k 16) (length-map cells (cell_of known)) ∙ spelt.1);
-      cells = λ e. modes_apart t.heading e (subst (λ q. has_values q ≡ true) (sym i) v);
-      lines = omega arith;
-      counts_within = at.read.few;
-    };
+      let spelt = and_parts (list_all is_name modes && are_some is_cell_spelt cells) (nat_le (length cells) 16) at.read.spelt in
+      let more = length-append t.rows (row_of known modes cells ∷ []) in
+      let before = o.lines in
+      record {
+        rows = push_all (is_row_over (core known)) t.rows (row_of known modes cells) o.rows
+            (and_true _ _ (and_true _ _ (cells_over known at.base.variables.names cells (row_tests place _ counts known t modes cells at)) (modes_narrow known at.base.variables modes)) refl);
+        values = o.values;
+        widths = λ w. push_all (fits 16) t.rows (row_of known modes cells) (o.widths w) (ap (λ k. nat_le k 16) (length-map cells (cell_of known)) ∙ spelt.1);
+        cells = λ e. modes_apart t.heading e (subst (λ q. has_values q ≡ true) (sym i) v);
+        lines = omega arith;
+        counts_within = at.read.few;
+      };
   values = λ counts known t heading sides at o. record {
     rows = o.rows;
     values = sides_over known at.base.variables.names sides (some_all (is_side_spelt true) sides ((and_parts (are_some (is_side_spelt true) sides) (nat_le (length sides) 16) at.read.spelt).0))
@@ -214,19 +212,19 @@ over_rule = record {
     counts_within = at.read.few;
   };
   transition = λ counts known t source target e at o.
-    let over = event_over_kept known at.base.variables.names e (transition_tests _ _ counts known t source target e at) in
-    let narrow = mode_narrow known at.base.variables target in
-    let more = rows_more (mode_code known source) (mode_code known target) (event_of known e) t.rows in
-    let longer = rows_longer (mode_code known source) (mode_code known target) (event_of known e) t.rows in
-    let before = o.lines in
-    record {
-      rows = rows_all (is_row_over (core known)) (mode_code known source) (mode_code known target) (event_of known e) (λ row has g. row_more (core known) (mode_code known target) (event_of known e) row over narrow g)
-          (and_true _ _ (and_true _ _ (and_true _ _ over refl) (and_true _ _ (mode_narrow known at.base.variables source) refl)) (and_true _ _ narrow refl)) t.rows o.rows;
-      values = o.values;
-      widths = λ w. modes_apart t.heading at.here.at.0 w;
-      cells = λ f. let cells = o.cells f in omega arith;
-      lines = omega arith;
-      counts_within = at.read.few;
-    };
+      let over = event_over_kept known at.base.variables.names e (transition_tests _ _ counts known t source target e at) in
+      let narrow = mode_narrow known at.base.variables target in
+      let more = rows_more (mode_code known source) (mode_code known target) (event_of known e) t.rows in
+      let longer = rows_longer (mode_code known source) (mode_code known target) (event_of known e) t.rows in
+      let before = o.lines in
+      record {
+        rows = rows_all (is_row_over (core known)) (mode_code known source) (mode_code known target) (event_of known e) (λ row has g. row_more (core known) (mode_code known target) (event_of known e) row over narrow g)
+            (and_true _ _ (and_true _ _ (and_true _ _ over refl) (and_true _ _ (mode_narrow known at.base.variables source) refl)) (and_true _ _ narrow refl)) t.rows o.rows;
+        values = o.values;
+        widths = λ w. modes_apart t.heading at.here.at.0 w;
+        cells = λ f. let cells = o.cells f in omega arith;
+        lines = omega arith;
+        counts_within = at.read.few;
+      };
   close = λ place counts known t i at o. table_over place counts known t at.here o;
 }

@@ -36,7 +36,7 @@ pub record Passes (known : Known) (line : Statement) : Type 0 where
 
 seven : (a b c d e f g : Option Name)
     → option_or (as_kind k.Duplicate a) (option_or (as_kind k.Unknown b) (option_or (as_kind k.Kind c) (option_or (as_kind k.Range d)
-      (option_or (as_kind k.Wide e) (option_or (as_kind k.Mode f) (as_kind k.Table g)))))) ≡ None
+    (option_or (as_kind k.Wide e) (option_or (as_kind k.Mode f) (as_kind k.Table g)))))) ≡ None
     → (a ≡ None) × (b ≡ None) × (c ≡ None) × (d ≡ None) × (e ≡ None) × (f ≡ None) × (g ≡ None)
 seven a b c d e f g h =
     let h1 = second_none _ _ h in let h2 = second_none _ _ h1 in let h3 = second_none _ _ h2 in
@@ -54,5 +54,5 @@ pub passes : (known : Known) (line : Statement) → fault_in known line ≡ None
 unfolding fault_in
 passes known line h =
     let p = seven (duplicate_in known line) (unknown_in known line) (ill_in known line) (outside_in known line) (wide_in known line) (mode_in known line)
-        (table_in known line) h in
+    (table_in known line) h in
     record { duplicate = p.0; unknown = p.1; ill = p.2; outside = p.3; wide = p.4; mode = p.5; table = p.6 }

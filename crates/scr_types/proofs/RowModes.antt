@@ -55,7 +55,7 @@ distinct_push (x ∷ xs) y h e =
     let parts = and_parts (not (list_any (int_eq x) xs)) (are_distinct int_eq xs) h in
     let others = or_false (int_eq y x) (list_any (int_eq y) xs) e in
     let first : list_any (int_eq x) (xs ++ y ∷ []) ≡ false =
-        list_any-append (int_eq x) xs (y ∷ []) ∙ neither _ _ (not_true (list_any (int_eq x) xs) parts.0) (neither _ _ (other_code y x others.0) refl) in
+    list_any-append (int_eq x) xs (y ∷ []) ∙ neither _ _ (not_true (list_any (int_eq x) xs) parts.0) (neither _ _ (other_code y x others.0) refl) in
     and_true _ _ (false_not (list_any (int_eq x) (xs ++ y ∷ [])) first) (distinct_push xs y parts.1 others.1)
 
 -- ---- the modes of rows

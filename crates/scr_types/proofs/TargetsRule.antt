@@ -1,12 +1,11 @@
 -- A row of a mode table has one source, and for each cell a target of its own, which is another mode; other rows have no
 -- targets.
-use Rattle.std.proofs.Common.{◌≡◌, ℕ, ℤ, Bool, true, false, not, ◌&&◌, List, [], ◌∷◌, ◌++◌, length, Option, Some, None, refl, sym, ap, subst, ◌∙◌}
+use Rattle.std.proofs.Common.{◌≡◌, ℕ, ℤ, true, false, ◌&&◌, List, [], ◌∷◌, length, refl, sym, ap, subst, ◌∙◌}
 use Rattle.std.specs.Prelude.{nat_eq}
 use Rattle.std.specs.Ordering.{int_eq}
 use Rattle.std.specs.List.{list_all, list_any}
 use Rattle.std.proofs.lemmas.Bool.{and_parts, eqb-true, eq-eqb}
 use Rattle.scr_spec.specs.Data.{Data}
-use Rattle.scr_spec.specs.declared.table.Cell.{Cell}
 use Rattle.scr_spec.specs.declared.table.Event.{Event}
 use Rattle.scr_spec.specs.declared.table.Heading.{Heading}
 use Rattle.scr_spec.specs.declared.table.Heading.TheVariants as h
@@ -19,17 +18,16 @@ use Rattle.scr_spec.proofs.Passing.{and_true}
 use Rattle.scr_reader.specs.declared.place.Place.{Place}
 use Rattle.scr_reader.specs.declared.place.Counts.{Counts}
 use Rattle.scr_names.proofs.KeptValues.{has_values}
-use Rattle.scr_names.specs.declared.known.Known.{Known}
 use Rattle.scr_names.specs.Names.{Name}
 use Rattle.scr_names.specs.Events.{event_of}
-use Rattle.scr_types.specs.Tables.{has_mode, current_class}
+use Rattle.scr_types.specs.Tables.{has_mode}
 use Rattle.scr_types.specs.Built.{mode_code, row_of, row_with, row_from, rows_with}
 use Rattle.scr_types.proofs.Grown.{push_all}
 use Rattle.scr_types.proofs.Transitions.{rows_all, targets_match}
 use Rattle.scr_types.proofs.RowModes.{false_not, neither, leaves, targets_distinct, targets_placed, all_leave}
 use Rattle.scr_types.proofs.ModesKept.{other_names}
 use Rattle.scr_types.proofs.ModesRule.{class_is_own, mode_placed, same_code_now}
-use Rattle.scr_types.proofs.CurrentTable.{class_now, IsChange, is_change}
+use Rattle.scr_types.proofs.CurrentTable.{class_now, is_change}
 use Rattle.scr_types.proofs.Opened.{core}
 use Rattle.scr_types.proofs.TableRules.{TableRule}
 
@@ -112,11 +110,11 @@ targets_rule = record {
       let placed = mode_placed known a.base.variables.labels t.variable target class change.to in
       let other = other_names known a.base.variables.labels t.variable source target change.from change.to change.differ in
       let differ : int_eq (mode_code known source) (mode_code known target) ≡ false =
-          ap (λ code. int_eq code (mode_code known target)) (same_code_now known t.variable source class)
-          ∙ ap (int_eq _) (same_code_now known t.variable target class) ∙ other in
+      ap (λ code. int_eq code (mode_code known target)) (same_code_now known t.variable source class)
+      ∙ ap (int_eq _) (same_code_now known t.variable target class) ∙ other in
       let rows = rows_with (mode_code known source) (mode_code known target) (event_of known e) t.rows in
       subst (λ heading. list_all (is_row_targeted (core known) heading t.variable) rows ≡ true) (sym a.here.at.0)
       (rows_targeted (core known) t.variable (mode_code known source) (mode_code known target) (event_of known e) t.rows placed differ
-          (subst (λ heading. list_all (is_row_targeted (core known) heading t.variable) t.rows ≡ true) a.here.at.0 o));
+      (subst (λ heading. list_all (is_row_targeted (core known) heading t.variable) t.rows ≡ true) a.here.at.0 o));
   close = λ place counts known t m a o. o;
 }

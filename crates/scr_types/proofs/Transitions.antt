@@ -97,6 +97,6 @@ targets_match target e (t ∷ targets) (c ∷ cells) h =
   where
     by : (b : Bool) → length targets ≡ length cells → length (targets_with target targets) ≡ length (cells_with target e targets cells)
         → length (if b || list_any (int_eq target) targets then t ∷ targets else (t ∷ targets) ++ target ∷ [])
-          ≡ length (if b then joined c e ∷ cells else c ∷ cells_with target e targets cells)
+        ≡ length (if b then joined c e ∷ cells else c ∷ cells_with target e targets cells)
     by true less k = omega (arith, less)
     by false less k = ap length (found_targets (list_any (int_eq target) targets) target t targets) ∙ ap suc k

@@ -1,5 +1,5 @@
 -- The values of each table have the sort of its variable, and are in its range where they name no variable.
-use Rattle.std.proofs.Common.{◌≡◌, Bool, true, ◌&&◌, List, [], ◌∷◌, map, length, Option, Some, refl, sym, ap, subst, ◌∙◌, ℕ}
+use Rattle.std.proofs.Common.{◌≡◌, true, List, [], ◌∷◌, map, length, Some, refl, sym, ap, subst, ◌∙◌, ℕ}
 use Rattle.std.specs.Prelude.{nat_le}
 use Rattle.std.specs.Option.{option_map_or}
 use Rattle.std.specs.List.{list_all}
@@ -47,10 +47,10 @@ values_rule = record {
   head = λ place counts known heading n class t b. refl;
   row = λ place counts known t heading modes cells i v l at o. o;
   values = λ counts known t heading sides at o.
-    values_made known t.heading t.variable sides (subst (λ q. has_values q ≡ true) (sym at.here.at.0) at.here.at.1)
-    (some_all (is_side_spelt true) sides ((and_parts (are_some (is_side_spelt true) sides) (nat_le (length sides) 16) at.read.spelt).0)) at.read.within
-    (typed_here known t sides at.here.is (right _ known t at.here (are_values_typed known sides) at.read.passes.ill))
-    (within_here known t sides at.here.is (right _ known t at.here (are_values_within known sides) at.read.passes.outside));
+      values_made known t.heading t.variable sides (subst (λ q. has_values q ≡ true) (sym at.here.at.0) at.here.at.1)
+      (some_all (is_side_spelt true) sides ((and_parts (are_some (is_side_spelt true) sides) (nat_le (length sides) 16) at.read.spelt).0)) at.read.within
+      (typed_here known t sides at.here.is (right _ known t at.here (are_values_typed known sides) at.read.passes.ill))
+      (within_here known t sides at.here.is (right _ known t at.here (are_values_within known sides) at.read.passes.outside));
   transition = λ counts known t source target e at o. o;
   close = λ place counts known t i at o. o;
 }

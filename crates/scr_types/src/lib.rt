@@ -10,4 +10,4 @@ mod mode;
 mod shape;
 
 pub use fault::{TypeFault, TypeKind};
-pub use lines::one_resolution;
+pub use lines::{one_resolution, resolve};
