@@ -20,7 +20,7 @@ use Rattle.scr_names.specs.declared.meaning.Meaning.{Meaning}
 use Rattle.scr_names.specs.declared.meaning.Meaning.TheVariants as m
 use Rattle.scr_names.specs.declared.known.Known.{Known}
 use Rattle.scr_names.specs.Names.{Name, NameList, is_known, with_name}
-use Rattle.scr_names.specs.Meanings.{seen, nothing, variable_named}
+use Rattle.scr_names.specs.Meanings.{seen, variable_named}
 use Rattle.scr_names.specs.Declarations.{with_labels, bounded, with_bound_at, with_declaration}
 use Rattle.scr_names.proofs.There.{is_there, are_there, NamesThere}
 
@@ -157,10 +157,6 @@ bound_there known step None h = h
 bound_there known step (Some v) h = grown (seen known) (seen (with_bound_at known step v)) (bound_grows known step v) known.names h
 
 -- ---- a line
-
--- before the first line
-pub nothing_there : NamesThere nothing
-nothing_there = refl
 
 constant_more : (spec : Data) → (c : Constant) → Grows spec (record spec { constants = spec.constants ++ c ∷ [] })
 constant_more spec c = record { types = λ k h. h; constants = longer spec.constants c; variables = λ v h. h; labels = λ o j h. h }
