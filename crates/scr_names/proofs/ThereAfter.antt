@@ -26,19 +26,19 @@ use Rattle.scr_names.proofs.There.{is_there, are_there, NamesThere}
 
 -- ---- places
 
-place_below : (names : List Name) (j : ℕ) → j < length names → is_place names (pos j) ≡ true
+pub place_below : (names : List Name) (j : ℕ) → j < length names → is_place names (pos j) ≡ true
 place_below names j h = let low : 0 ≤ j = omega arith in and_true _ _ (le-leb 0 j low) (lt-ltb j (length names) h)
 
 -- no list has no place
-no_place : {A : Type 0} (j : ℕ) → is_place [] (pos j) ≡ true → A
+pub no_place : {A : Type 0} (j : ℕ) → is_place [] (pos j) ≡ true → A
 no_place j h = let l = ltb-true j 0 ((and_parts (int_le (pos 0) (pos j)) (int_lt (pos j) (pos 0)) h).1) in absurd (omega arith)
 
 -- ---- lists that grow at their end
 
-longer : {X : Type 0} (xs : List X) (x : X) (k : ℕ) → nat_lt k (length xs) ≡ true → nat_lt k (length (xs ++ x ∷ [])) ≡ true
+pub longer : {X : Type 0} (xs : List X) (x : X) (k : ℕ) → nat_lt k (length xs) ≡ true → nat_lt k (length (xs ++ x ∷ [])) ≡ true
 longer xs x k h = let n = length-append xs (x ∷ []) in let l = ltb-true k (length xs) h in lt-ltb k (length (xs ++ x ∷ [])) (omega arith)
 
-last_there : {X : Type 0} (xs : List X) (x : X) → nat_lt (length xs) (length (xs ++ x ∷ [])) ≡ true
+pub last_there : {X : Type 0} (xs : List X) (x : X) → nat_lt (length xs) (length (xs ++ x ∷ [])) ≡ true
 last_there xs x = let n = length-append xs (x ∷ []) in lt-ltb (length xs) (length (xs ++ x ∷ [])) (omega arith)
 
 -- the list that the k-th gives
@@ -119,7 +119,7 @@ list_there spec o names ns e h = labels_there spec o names 0 ns h (λ j l. ap (�
 
 -- ---- a bound changes no list
 
-same_length : (xs : List Variable) (v : ℕ) (x : Variable) → length (slice_set xs v x) ≡ length xs
+pub same_length : {X : Type 0} (xs : List X) (v : ℕ) (x : X) → length (slice_set xs v x) ≡ length xs
 same_length [] v x = refl
 same_length (y ∷ ys) zero x = refl
 same_length (y ∷ ys) (suc v) x = ap suc (same_length ys v x)

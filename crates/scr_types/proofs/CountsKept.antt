@@ -7,12 +7,13 @@ use Rattle.scr_spec.specs.declared.spec.Variable.{Variable}
 use Rattle.scr_reader.specs.declared.draft.Statement.TheVariants as s
 use Rattle.scr_reader.specs.declared.place.Counts.{Counts}
 use Rattle.scr_reader.specs.Limits.{is_count_within}
+use Rattle.scr_names.proofs.ThereAfter.{same_length}
 use Rattle.scr_names.specs.declared.known.Known.{Known}
 use Rattle.scr_names.specs.Meanings.{variable_named}
 use Rattle.scr_names.specs.Declarations.{bounded, with_bound_at}
 use Rattle.scr_types.specs.Lines.{after}
 use Rattle.scr_types.proofs.Carried.{Step}
-use Rattle.scr_types.proofs.Grown.{more_length, set_length}
+use Rattle.scr_types.proofs.Grown.{more_length}
 
 -- the lines are counted as what they declare
 pub record AreCounts (counts : Counts) (known : Known) : Type 0 where
@@ -23,7 +24,7 @@ pub record AreCounts (counts : Counts) (known : Known) : Type 0 where
 
 bound_by : (known : Known) (step : ℤ) (v : ℕ) (o : Option Variable) → length (option_map_or (λ x. slice_set known.variables v (bounded step x)) o known.variables) ≡ length known.variables
 bound_by known step v None = refl
-bound_by known step v (Some x) = set_length known.variables v (bounded step x)
+bound_by known step v (Some x) = same_length known.variables v (bounded step x)
 
 bound_counts : (counts : Counts) (known : Known) (step : ℤ) (o : Option ℕ) → AreCounts counts known → AreCounts counts (option_map_or (with_bound_at known step) o known)
 bound_counts counts known step None h = h

@@ -7,7 +7,7 @@ use Rattle.scr_reader.specs.declared.draft.DraftCell.{DraftCell}
 use Rattle.scr_names.specs.declared.known.Known.{Known}
 use Rattle.scr_names.specs.Names.{Name}
 use Rattle.scr_types.specs.Tables.{current_class, current_rows, is_mode, first_bad, bad_mode, bad_change, bad_transition, missing_in, missing_mode, is_count, are_modes_placed, is_row_placed}
-use Rattle.scr_types.proofs.RowModes.{not_true}
+use Rattle.scr_types.proofs.Truths.{not_true}
 use Rattle.scr_types.proofs.Passes.{first_none, second_none, unless_none}
 
 -- ---- its class and its rows

@@ -1,14 +1,12 @@
 -- Lists that grow, and variables that get a bound.
-use Rattle.std.proofs.Common.{◌≡◌, ℕ, zero, suc, ◌+◌, ℤ, pos, Bool, true, List, [], ◌∷◌, ◌++◌, length, Some, is_some, refl, sym, ap, subst, ◌∙◌, arith}
-use Rattle.std.specs.Prelude.{nat_lt, int_le, int_lt, slice_get, slice_set}
+use Rattle.std.proofs.Common.{◌≡◌, ℕ, zero, suc, ◌+◌, ℤ, Bool, true, List, [], ◌∷◌, ◌++◌, length, Some, is_some, refl, sym, ap, subst, ◌∙◌, arith}
+use Rattle.std.specs.Prelude.{nat_lt, slice_get, slice_set}
 use Rattle.std.specs.Option.{option_map_or}
 use Rattle.std.specs.List.{list_all}
 use Rattle.std.proofs.lemmas.Bool.{and_parts, ltb-true, lt-ltb}
-use Rattle.std.proofs.lemmas.Int.{ints}
 use Rattle.std.proofs.lemmas.List.{length-append}
 use Rattle.std.proofs.lemmas.List.Folds.{list_all-append}
 use Rattle.scr_spec.specs.declared.spec.Variable.{Variable}
-use Rattle.scr_spec.specs.Over.{is_place}
 use Rattle.scr_spec.proofs.Passing.{and_true}
 use Rattle.scr_names.specs.Declarations.{bounded}
 
@@ -16,14 +14,6 @@ use Rattle.scr_names.specs.Declarations.{bounded}
 
 pub more_length : {X : Type 0} (xs : List X) (x : X) → length (xs ++ x ∷ []) ≡ length xs + 1
 more_length xs x = length-append xs (x ∷ [])
-
--- a place that was there is there
-pub lt_grown : {X : Type 0} (xs : List X) (x : X) (k : ℕ) → nat_lt k (length xs) ≡ true → nat_lt k (length (xs ++ x ∷ [])) ≡ true
-lt_grown xs x k h = let e = more_length xs x in let i = ltb-true k (length xs) h in lt-ltb k (length (xs ++ x ∷ [])) (omega arith)
-
--- the new place is there
-pub lt_last : {X : Type 0} (xs : List X) (x : X) → nat_lt (length xs) (length (xs ++ x ∷ [])) ≡ true
-lt_last xs x = let e = more_length xs x in lt-ltb (length xs) (length (xs ++ x ∷ [])) (omega arith)
 
 -- what was there stands where it stood
 pub get_grown : {X : Type 0} (xs ys : List X) (k : ℕ) (x : X) → slice_get xs k ≡ Some x → slice_get (xs ++ ys) k ≡ Some x
@@ -46,10 +36,6 @@ there_get [] k x h = absurd (cc)
 there_get (y ∷ xs) zero x h = lt-ltb 0 (suc (length xs)) (omega arith)
 there_get (y ∷ xs) (suc k) x h = let i = ltb-true k (length xs) (there_get xs k x h) in lt-ltb (suc k) (suc (length xs)) (omega arith)
 
--- a list without names has no places
-pub no_place : (place : ℕ) → is_place [] (pos place) ≡ true → ⊥
-no_place place h = let i = and_parts (int_le (pos 0) (pos place)) (int_lt (pos place) (pos 0)) h in let j = i.1 in grind (arith, ints)
-
 -- one more that passes
 pub push_all : {X : Type 0} (q : X → Bool) (xs : List X) (x : X) → list_all q xs ≡ true → q x ≡ true → list_all q (xs ++ x ∷ []) ≡ true
 push_all q xs x h i = list_all-append q xs (x ∷ []) ∙ and_true _ _ h (and_true _ _ i refl)
@@ -64,11 +50,6 @@ bound_get g d (y ∷ xs) zero x step h e zero = e ∙ sym (ap (λ o. option_map_
 bound_get g d (y ∷ xs) zero x step h e (suc k) = refl
 bound_get g d (y ∷ xs) (suc v) x step h e zero = refl
 bound_get g d (y ∷ xs) (suc v) x step h e (suc k) = bound_get g d xs v x step h e k
-
-pub set_length : {X : Type 0} (xs : List X) (v : ℕ) (y : X) → length (slice_set xs v y) ≡ length xs
-set_length [] v y = refl
-set_length (x ∷ xs) zero y = refl
-set_length (x ∷ xs) (suc v) y = ap suc (set_length xs v y)
 
 pub set_all : {X : Type 0} (p : X → Bool) (xs : List X) (v : ℕ) (y : X) → list_all p xs ≡ true → p y ≡ true → list_all p (slice_set xs v y) ≡ true
 set_all p [] v y h k = refl

@@ -17,6 +17,7 @@ use Rattle.scr_names.specs.Meanings.{seen, variable_named}
 use Rattle.scr_names.specs.Declarations.{variable_of}
 use Rattle.scr_types.specs.Tables.{is_head_new, is_computed_named, is_class_named, ill_class, is_init_for, is_head_placed}
 use Rattle.scr_types.specs.Built.{table_of}
+use Rattle.scr_types.proofs.Truths.{not_true}
 use Rattle.scr_types.proofs.Passes.{Passes, first_none, second_none, unless_none}
 
 pub record IsBegun (known : Known) (t : Table) : Type 0 where
@@ -55,14 +56,10 @@ number_of known n test f = ap (λ o. unwrap_or o 0) f.named
 
 -- ---- the head
 
-not_false : (b : Bool) → not b ≡ true → b ≡ false
-not_false true e = absurd (cc)
-not_false false e = refl
-
 is_new : (known : Known) (n : Name) (test : Variable → Bool) → IsFound known n test → is_head_new known n ≡ true → has_table known.tables (unwrap_or (variable_named known n) 0) ≡ false
 is_new known n test f e =
     ap (has_table known.tables) (number_of known n test f)
-    ∙ not_false (has_table known.tables f.number) (sym (ap (λ o. option_map_or (λ v. not (has_table known.tables v)) o true) f.named) ∙ e)
+    ∙ not_true (has_table known.tables f.number) (sym (ap (λ o. option_map_or (λ v. not (has_table known.tables v)) o true) f.named) ∙ e)
 
 -- the test of the variable of the head
 at_head : (known : Known) (n : Name) (test right : Variable → Bool) (f : IsFound known n test) → right f.variable ≡ true

@@ -28,6 +28,7 @@ pub mod TabledKept
 pub mod TargetsRule
 pub mod Told
 pub mod Transitions
+pub mod Truths
 pub mod TypesKept
 pub mod ValueRules
 pub mod VariablesKept

@@ -22,7 +22,8 @@ use Rattle.scr_names.specs.Meanings.{seen, meant}
 use Rattle.scr_types.specs.Tables.{mode_of, mode_meant, mode_named, is_used, is_free, is_mode, first_bad, current_rows}
 use Rattle.scr_types.proofs.Grown.{push_all, there_get}
 use Rattle.scr_types.proofs.NamesAt.{is_at_place, is_at, NamesAt, meant_at, same_bytes, bytes_same}
-use Rattle.scr_types.proofs.RowModes.{not_true, neither, or_false, same_code, distinct_push}
+use Rattle.scr_types.proofs.Truths.{not_true, neither, or_false, or_assoc}
+use Rattle.scr_types.proofs.RowModes.{same_code, distinct_push}
 
 -- ---- a mode stands at its place
 
@@ -135,13 +136,9 @@ row_modes known at v before (n ∷ ns) xs e distinct same modes =
       and_true _ _ (ap (is_place (modes_of (seen known) v)) (code_is known v n found.0 found.1) ∙ place_is known at v n found.0 found.1) more.1,
     )
   where
-    regroup : (a b c : Bool) → ((a || b) || c) ≡ (a || (b || c))
-    regroup true b c = refl
-    regroup false b c = refl
-
     again : (c : ℤ) → list_any (int_eq c) (xs ++ code_in known v n ∷ []) ≡ (is_used (current_rows known) c || list_any (int_eq c) (map (code_in known v) (before ++ n ∷ [])))
     again c =
         list_any-append (int_eq c) xs (code_in known v n ∷ []) ∙ ap (λ t. t || list_any (int_eq c) (code_in known v n ∷ [])) (same c)
-        ∙ regroup (is_used (current_rows known) c) (list_any (int_eq c) (map (code_in known v) before)) (list_any (int_eq c) (code_in known v n ∷ []))
+        ∙ or_assoc (is_used (current_rows known) c) (list_any (int_eq c) (map (code_in known v) before)) (list_any (int_eq c) (code_in known v n ∷ []))
         ∙ ap (λ t. is_used (current_rows known) c || t)
         (sym (ap (list_any (int_eq c)) (map-append (code_in known v) before (n ∷ [])) ∙ list_any-append (int_eq c) (map (code_in known v) before) (code_in known v n ∷ [])))

@@ -30,6 +30,7 @@ use Rattle.scr_types.specs.Built.{mode_code, row_of, rows_with}
 use Rattle.scr_types.proofs.Grown.{push_all}
 use Rattle.scr_types.proofs.NamesAt.{NamesAt}
 use Rattle.scr_types.proofs.Transitions.{rows_all}
+use Rattle.scr_types.proofs.Truths.{or_none}
 use Rattle.scr_types.proofs.RowModes.{used_named, rows_distinct, rows_placed}
 use Rattle.scr_types.proofs.ModesKept.{there_is, code_in, code_is, place_is, row_modes}
 use Rattle.scr_types.proofs.Opened.{core}
@@ -67,10 +68,6 @@ some_modes (n ∷ ns) f h = le-leb 1 (length (map f (n ∷ ns))) (omega arith)
 named_more : (rows : List Row) (row : Row) → named_modes (rows ++ row ∷ []) ≡ named_modes rows ++ row.modes
 named_more rows row = flat_map-append (λ (r : Row). r.modes) rows (row ∷ []) ∙ ap (λ ms. named_modes rows ++ ms) (append-nil row.modes)
 
-or_nothing : (a : Bool) → a ≡ (a || false)
-or_nothing true = refl
-or_nothing false = refl
-
 -- the parts of the rule over a class
 pub record AreModes (spec : Data) (v : ℕ) (rows : List Row) : Type 0 where
   pub some : list_all (λ r. nat_le 1 (length r.modes)) rows ≡ true
@@ -96,7 +93,7 @@ some_row known at t v modes cells e c some bad h =
     let old = modes_parts (core known) v t.rows h in
     let codes = same_codes known v modes c in
     let same : (code : ℤ) → list_any (int_eq code) (named_modes t.rows) ≡ (is_used (current_rows known) code || false) =
-    λ code. used_named t.rows code ∙ ap (λ rows. is_used rows code) (sym (rows_now known t e)) ∙ or_nothing (is_used (current_rows known) code) in
+    λ code. used_named t.rows code ∙ ap (λ rows. is_used rows code) (sym (rows_now known t e)) ∙ or_none (is_used (current_rows known) code) in
     let new = row_modes known at v [] modes (named_modes t.rows) bad old.distinct same refl in
     let named : named_modes (t.rows ++ row_of known modes cells ∷ []) ≡ named_modes t.rows ++ map (code_in known v) modes =
     named_more t.rows (row_of known modes cells) ∙ ap (λ ms. named_modes t.rows ++ ms) codes in

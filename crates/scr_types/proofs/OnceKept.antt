@@ -4,7 +4,6 @@ use Rattle.std.specs.Prelude.{if◌then◌else◌, slice_get, slice_set}
 use Rattle.std.specs.Option.{option_map_or}
 use Rattle.std.specs.List.{list_any, flat_map}
 use Rattle.std.specs.Str.{bytes_eq}
-use Rattle.std.proofs.lemmas.Slice.Eq.{bytes_eq-Decides}
 use Rattle.std.proofs.lemmas.List.Folds.{list_any-append}
 use Rattle.scr_spec.specs.declared.cond.Owner.{Owner}
 use Rattle.scr_spec.specs.declared.cond.Owner.TheVariants as owner
@@ -24,6 +23,8 @@ use Rattle.scr_names.specs.Meanings.{seen, variable_named}
 use Rattle.scr_names.specs.Declarations.{with_labels, bounded, with_bound_at}
 use Rattle.scr_types.specs.Lines.{after}
 use Rattle.scr_types.proofs.Carried.{Step}
+use Rattle.scr_types.proofs.Truths.{or_none, or_assoc}
+use Rattle.scr_types.proofs.NamesAt.{same_bytes, bytes_same}
 use Rattle.scr_types.proofs.NamesKept.{plain_modes}
 
 -- ---- how often a name stands in a list
@@ -38,9 +39,6 @@ times n (m ∷ ms) = bit (bytes_eq n m) + times n ms
 
 clash : {b : Bool} → b ≡ true → b ≡ false → ⊥
 clash h k = let g : true ≡ false = sym h ∙ k in cc
-
-same_name : (q n : Name) → bytes_eq q n ≡ true → q ≡ n
-same_name q n h = (bytes_eq-Decides q n).0 h
 
 not_again : (a b : Bool) (n : Name) (rest : Option Name) → (if (a || b) then Some n else rest) ≡ None → (a ≡ false) × (b ≡ false) × (rest ≡ None)
 not_again true b n rest e = absurd (cc)
@@ -57,7 +55,7 @@ one_more_name : (names : NameList) (before : List Name) (n : Name) (ns : List Na
     → (is_known names q ≡ true → times q ns ≡ 0) → (list_any (bytes_eq q) (before ++ n ∷ []) ≡ true → times q ns ≡ 0) → times q ns ≡ bit (list_any (bytes_eq q) ns)
     → (is_known names q ≡ true → times q (n ∷ ns) ≡ 0) × (list_any (bytes_eq q) before ≡ true → times q (n ∷ ns) ≡ 0) × (times q (n ∷ ns) ≡ bit (list_any (bytes_eq q) (n ∷ ns)))
 one_more_name names before n ns q true e k l f g t =
-    let same = same_name q n e in
+    let same = same_bytes q n e in
     let none : times q ns ≡ 0 = g (list_any-append (bytes_eq q) before (n ∷ []) ∙ last_any _ _ e) in (
       λ h. absurd (clash h (ap (is_known names) same ∙ k)),
       λ h. absurd (clash h (ap (λ x. list_any (bytes_eq x) before) same ∙ l)),
@@ -94,16 +92,8 @@ known_named : (names : NameList) (n : Name) (x : Meaning) (q : Name) → is_know
 known_named names n x q = by (is_known names n) refl
   where
     by : (b : Bool) → is_known names n ≡ b → is_known (if is_known names n then names else names ++ (n, x) ∷ []) q ≡ (is_known names q || bytes_eq q n)
-    by true e = ap (λ b. is_known (if b then names else names ++ (n, x) ∷ []) q) e ∙ stays (is_known names q) (bytes_eq q n) (λ h. ap (is_known names) (same_name q n h) ∙ e)
+    by true e = ap (λ b. is_known (if b then names else names ++ (n, x) ∷ []) q) e ∙ stays (is_known names q) (bytes_eq q n) (λ h. ap (is_known names) (same_bytes q n h) ∙ e)
     by false e = ap (λ b. is_known (if b then names else names ++ (n, x) ∷ []) q) e ∙ known_push names n x q
-
-or_assoc : (a b c : Bool) → ((a || b) || c) ≡ (a || (b || c))
-or_assoc true b c = refl
-or_assoc false b c = refl
-
-or_none : (a : Bool) → a ≡ (a || false)
-or_none true = refl
-or_none false = refl
 
 known_labelled : (names : NameList) (o : Owner) (i : ℕ) (ns : List Name) (q : Name) → is_known (with_labels names o i ns) q ≡ (is_known names q || list_any (bytes_eq q) ns)
 known_labelled names o i [] q = or_none (is_known names q)
@@ -193,9 +183,6 @@ bit_small : (b : Bool) → bit b ≤ 1
 bit_small true = omega arith
 bit_small false = omega arith
 
-same_refl : (n : Name) → bytes_eq n n ≡ true
-same_refl n = (bytes_eq-Decides n n).1 refl
-
 none_any : (n : Name) (ns : List Name) → times n ns ≡ 0 → list_any (bytes_eq n) ns ≡ false
 none_any n [] h = refl
 none_any n (m ∷ ms) h = by (bytes_eq n m) refl h (λ g. none_any n ms g)
@@ -208,7 +195,7 @@ distinct_from : (ns : List Name) → ((q : Name) → times q ns ≤ 1) → are_d
 distinct_from [] h = refl
 distinct_from (n ∷ ns) h =
     let once = h n in
-    let one : bit (bytes_eq n n) ≡ 1 = ap bit (same_refl n) in
+    let one : bit (bytes_eq n n) ≡ 1 = ap bit (bytes_same n n refl) in
     let none : times n ns ≡ 0 = omega arith in
     and_true (not (list_any (bytes_eq n) ns)) (are_distinct bytes_eq ns) (ap not (none_any n ns none)) (distinct_from ns (λ q. let g = h q in omega arith))
 

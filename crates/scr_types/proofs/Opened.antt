@@ -134,9 +134,6 @@ opened_at known h.Modes n class = (refl, refl)
 more_rows : {X : Type 0} (xs : List X) (x : X) → 1 ≤ length (xs ++ x ∷ [])
 more_rows xs x = let e = length-append xs (x ∷ []) in omega arith
 
-end_outside : is_inside p.Tables ≡ true → ⊥
-end_outside h = cc
-
 after_variables : (place next : Place) (counts : Counts) (known : Known) (line : Statement) → IsLine place next counts known line → Base place known → VariablesKept (after known line)
 after_variables place next counts known line t b = variables_kept place next counts known line t b.variables
 

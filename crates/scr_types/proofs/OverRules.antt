@@ -35,6 +35,7 @@ use Rattle.scr_reader.specs.declared.place.Place.{Place}
 use Rattle.scr_reader.specs.declared.place.Counts.{Counts}
 use Rattle.scr_reader.specs.Limits.{is_count_within}
 use Rattle.scr_reader.specs.Readable.{are_some, is_cell_spelt, is_side_spelt}
+use Rattle.scr_names.proofs.ThereAfter.{no_place}
 use Rattle.scr_names.proofs.There.{is_there, NamesThere, meant_there}
 use Rattle.scr_names.proofs.KeptForms.{some_all}
 use Rattle.scr_names.proofs.KeptOver.{side_over_kept}
@@ -49,7 +50,7 @@ use Rattle.scr_names.specs.Sides.{is_narrow_side, side_of}
 use Rattle.scr_names.specs.Events.{event_of, cell_of}
 use Rattle.scr_types.specs.Tables.{mode_meant, mode_named, current_class}
 use Rattle.scr_types.specs.Built.{mode_code, joined, targets_with, row_with, row_of}
-use Rattle.scr_types.proofs.Grown.{there_get, no_place, push_all, all_at}
+use Rattle.scr_types.proofs.Grown.{there_get, push_all, all_at}
 use Rattle.scr_types.proofs.Transitions.{cells_all, rows_all, cell_count, rows_more, rows_longer}
 use Rattle.scr_types.proofs.CountsKept.{few_rows}
 use Rattle.scr_types.proofs.VariablesKept.{is_kept, kept_parts, VariablesKept}
@@ -69,12 +70,12 @@ small_place names place h k =
     le-leb place 1000000 (omega arith)
 
 mode_by : (known : Known) (kind : Kind) (place : ℕ) → is_kind_sound known.types kind ≡ true → is_place (kind_modes kind) (pos place) ≡ true → is_narrow (pos place) ≡ true
-mode_by known kind.Boolean place h k = absurd (no_place place k)
-mode_by known (kind.Named j) place h k = absurd (no_place place k)
+mode_by known kind.Boolean place h k = no_place place k
+mode_by known (kind.Named j) place h k = no_place place k
 mode_by known (kind.Modes names) place h k = small_place names place h k
 
 class_by : (known : Known) (w place : ℕ) (o : Option Variable) → VariablesKept known → slice_get known.variables w ≡ o → is_place (option_map_or (λ x. kind_modes x.kind) o []) (pos place) ≡ true → is_narrow (pos place) ≡ true
-class_by known w place None v e k = absurd (no_place place k)
+class_by known w place None v e k = no_place place k
 class_by known w place (Some x) v e k = mode_by known x.kind place (kept_parts known.types x (all_at (is_kept known.types) known.variables w x v.variables e)).kind k
 
 own_by : (known : Known) (w place : ℕ) (b : Bool) → is_narrow (pos place) ≡ true → is_narrow (option_map_or pos (if b then Some place else None) (pos 0)) ≡ true

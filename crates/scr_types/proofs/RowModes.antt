@@ -15,23 +15,8 @@ use Rattle.scr_spec.proofs.Passing.{and_true}
 use Rattle.scr_names.specs.Names.{Name}
 use Rattle.scr_types.specs.Tables.{has_mode, is_used}
 use Rattle.scr_types.specs.Built.{targets_with, row_with, rows_with}
+use Rattle.scr_types.proofs.Truths.{not_true, false_not, or_false, neither}
 use Rattle.scr_types.proofs.Grown.{push_all}
-
--- ---- tests
-
-pub not_true : (a : Bool) → not a ≡ true → a ≡ false
-not_true true h = absurd (cc)
-not_true false h = refl
-
-pub false_not : (a : Bool) → a ≡ false → not a ≡ true
-false_not a e = ap not e
-
-pub or_false : (a b : Bool) → (a || b) ≡ false → (a ≡ false) × (b ≡ false)
-or_false true b h = absurd (cc)
-or_false false b h = (refl, h)
-
-pub neither : (a b : Bool) → a ≡ false → b ≡ false → (a || b) ≡ false
-neither a b h k = ap (λ t. t || b) h ∙ k
 
 -- ---- codes
 

@@ -25,6 +25,7 @@ use Rattle.scr_types.specs.Tables.{first_bare}
 use Rattle.scr_types.specs.Built.{mode_code, row_of, row_added, values_set, transition_added}
 use Rattle.scr_types.specs.Lines.{after}
 use Rattle.scr_types.proofs.Carried.{IsLine, Step}
+use Rattle.scr_types.proofs.Truths.{not_true, or_false}
 use Rattle.scr_types.proofs.Heads.{begun}
 use Rattle.scr_types.proofs.Moves.{is_early, is_inside, Moves, declares, heads, first_row, next_row, gives_values, changes, ends, finishes, moves}
 use Rattle.scr_types.proofs.Opened.{Base, base_kept, apart, head_inside, early_outside, end_inside, between_outside, declared_same}
@@ -40,20 +41,12 @@ distinct_more : (tables : List Table) (t : Table) → are_distinct nat_eq (varia
 distinct_more [] t d h = refl
 distinct_more (u ∷ us) t d h =
     let a = and_parts (not (list_any (nat_eq u.variable) (variables_of us))) (are_distinct nat_eq (variables_of us)) d in
-    let b = neither (nat_eq u.variable t.variable) (has_table us t.variable) h in
+    let b = or_false (nat_eq u.variable t.variable) (has_table us t.variable) h in
     and_true _ _ (ap not (push_none us t u.variable (not_true _ (a.0)) (b.0))) (distinct_more us t (a.1) (b.1))
   where
-    neither : (x y : Bool) → (x || y) ≡ false → (x ≡ false) × (y ≡ false)
-    neither true y e = absurd (cc)
-    neither false y e = (refl, e)
-
-    not_true : (x : Bool) → not x ≡ true → x ≡ false
-    not_true true e = absurd (cc)
-    not_true false e = refl
-
     push_none : (vs : List Table) (w : Table) (v : ℕ) → list_any (nat_eq v) (variables_of vs) ≡ false → nat_eq v w.variable ≡ false → list_any (nat_eq v) (variables_of (vs ++ w ∷ [])) ≡ false
     push_none [] w v e f = ap (λ x. x || false) f
-    push_none (x ∷ vs) w v e f = let c = neither (nat_eq v x.variable) (list_any (nat_eq v) (variables_of vs)) e in ap (λ y. y || list_any (nat_eq v) (variables_of (vs ++ w ∷ []))) (c.0) ∙ push_none vs w v (c.1) f
+    push_none (x ∷ vs) w v e f = let c = or_false (nat_eq v x.variable) (list_any (nat_eq v) (variables_of vs)) e in ap (λ y. y || list_any (nat_eq v) (variables_of (vs ++ w ∷ []))) (c.0) ∙ push_none vs w v (c.1) f
 
 pub record AreTabled (place : Place) (known : Known) : Type 0 where
   pub base : Base place known

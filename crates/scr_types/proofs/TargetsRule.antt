@@ -24,7 +24,8 @@ use Rattle.scr_types.specs.Tables.{has_mode}
 use Rattle.scr_types.specs.Built.{mode_code, row_of, row_with, row_from, rows_with}
 use Rattle.scr_types.proofs.Grown.{push_all}
 use Rattle.scr_types.proofs.Transitions.{rows_all, targets_match}
-use Rattle.scr_types.proofs.RowModes.{false_not, neither, leaves, targets_distinct, targets_placed, all_leave}
+use Rattle.scr_types.proofs.Truths.{false_not, neither}
+use Rattle.scr_types.proofs.RowModes.{leaves, targets_distinct, targets_placed, all_leave}
 use Rattle.scr_types.proofs.ModesKept.{other_names}
 use Rattle.scr_types.proofs.ModesRule.{class_is_own, mode_placed, same_code_now}
 use Rattle.scr_types.proofs.CurrentTable.{class_now, is_change}

@@ -45,11 +45,11 @@ use Rattle.scr_names.specs.Meanings.{seen, meant, type_meant, type_named, variab
 use Rattle.scr_names.specs.Declarations.{no_type, fixed_sort, value_sort, is_init_typed, takes_bound, kind_of, fixed_code, value_code, is_init_within, init_code, place_of, bounded, with_bound_at}
 use Rattle.scr_types.specs.Lines.{after}
 use Rattle.scr_names.proofs.There.{is_there, NamesThere, meant_there}
-use Rattle.scr_names.proofs.ThereAfter.{declared_there}
+use Rattle.scr_names.proofs.ThereAfter.{declared_there, longer, place_below}
 use Rattle.scr_types.proofs.Passes.{first_none, second_none, unless_none}
 use Rattle.scr_types.proofs.NamesAt.{NamesAt, at_after}
 use Rattle.scr_types.proofs.Carried.{IsLine, Step}
-use Rattle.scr_types.proofs.Grown.{lt_grown, get_grown, get_there, push_all, set_all, all_at}
+use Rattle.scr_types.proofs.Grown.{get_grown, get_there, push_all, set_all, all_at}
 use Rattle.scr_types.proofs.TypesKept.{list_sound}
 
 -- the rules on a variable
@@ -91,7 +91,7 @@ kind_same types t (kind.Named k) h = by (slice_get types k) refl (get_there type
     by (Some u) e g =
         let same : slice_get (types ++ t ∷ []) k ≡ slice_get types k = get_grown types (t ∷ []) k u e ∙ sym e in
         record {
-          sound = lt_grown types t k h;
+          sound = longer types t k h;
           integer = ap (λ o. option_map_or (λ (t : TypeDef). is_range t.shape) o false) same;
           domain = ap (λ o. option_map_or (λ (t : TypeDef). shape_domain t.shape) o no_domain) same;
         }
@@ -265,14 +265,11 @@ place_small : (p : Name → Bool) (names : List Name) (o : Option ℕ) → posit
 place_small p names None e h = omega arith
 place_small p names (Some i) e h = (position-Some p names i [] e).0
 
-within_place : (names : List Name) (i : ℕ) → i < length names → is_place names (pos i) ≡ true
-within_place names i h = and_true (int_le (pos 0) (pos i)) (int_lt (pos i) (pos (length names))) (grind (arith, ints)) (grind (arith, ints))
-
 class_kept : (types : List TypeDef) (n : Name) (modes : List Name) (init : Name) → is_list_sound modes ≡ true → is_kept types (class_of n modes init) ≡ true
 class_kept types n modes init h =
     let p = and_parts (nat_le 1 (length modes)) (nat_le (length modes) 64) h in
     let small = place_small (λ other. bytes_eq other init) modes (position (λ other. bytes_eq other init) modes) refl (leb-true 1 (length modes) (p.0)) in
-    kept_whole types (class_of n modes init) (record { kind = h; role = refl; bound = refl; there = refl; init = place_within modes (place_of modes init) (within_place modes (place_of modes init) small) })
+    kept_whole types (class_of n modes init) (record { kind = h; role = refl; bound = refl; there = refl; init = place_within modes (place_of modes init) (place_below modes (place_of modes init) small) })
 
 -- ---- each line
 
