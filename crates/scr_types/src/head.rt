@@ -12,12 +12,7 @@ use scr_text::Name;
 pub(crate) fn has_table(tables: &[Table], v: usize) -> bool
     ensures { result ≡ has_table tables.now v }
 {
-    for table in tables {
-        if table.variable == v {
-            return true;
-        }
-    }
-    false
+    tables.iter().any(|table| table.variable == v)
 }
 
 /// Whether the name stands for no variable that has a table.

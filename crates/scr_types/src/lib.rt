@@ -11,3 +11,6 @@ mod shape;
 
 pub use fault::{TypeFault, TypeKind};
 pub use lines::{one_resolution, resolve};
+
+#[cfg(test)]
+mod tests;

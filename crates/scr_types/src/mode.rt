@@ -41,12 +41,7 @@ pub(crate) fn mode_named(known: &Known, v: usize, name: &Name) -> Option<u32>
 pub(crate) fn has_code(codes: &[i64], code: i64) -> bool
     ensures { result ≡ list_any (int_eq code) codes.now }
 {
-    for other in codes {
-        if code == *other {
-            return true;
-        }
-    }
-    false
+    codes.iter().any(|other| code == *other)
 }
 
 /// Whether the row has the mode.
@@ -59,12 +54,7 @@ pub(crate) fn has_mode(mode: i64, row: &Row) -> bool
 fn is_used(rows: &[Row], mode: i64) -> bool
     ensures { result ≡ spec.is_used rows.now mode }
 {
-    for row in rows {
-        if has_mode(mode, row) {
-            return true;
-        }
-    }
-    false
+    rows.iter().any(|row| has_mode(mode, row))
 }
 
 fn is_used_now(known: &Known, mode: i64) -> bool
