@@ -23,7 +23,7 @@ use Rattle.scr_spec.specs.Data.{Data}
 use Rattle.scr_spec.specs.Roles.{is_monitored_role, is_class_role, is_computed_role}
 use Rattle.scr_spec.specs.Sorts.{is_sort, shape_range, type_range, type_sort, kind_range}
 use Rattle.scr_spec.specs.Domains.{list_domain, shape_domain, no_domain, kind_domain, is_within}
-use Rattle.scr_spec.specs.Types.{is_narrow, is_list_sound, is_kind_sound, is_integer_kind, is_range, is_bound_sound, shape_labels}
+use Rattle.scr_spec.specs.Types.{is_narrow, is_list_sound, is_kind_sound, is_integer_kind, is_bound_sound, shape_labels}
 use Rattle.scr_spec.specs.Over.{labels_of, is_place}
 use Rattle.scr_spec.specs.NameSpace.{is_name}
 use Rattle.scr_spec.specs.Initial.{is_init_there, is_init_sound, is_kind_of_role}
@@ -92,7 +92,7 @@ kind_same types t (kind.Named k) h = by (slice_get types k) refl (get_there type
         let same : slice_get (types ++ t ∷ []) k ≡ slice_get types k = get_grown types (t ∷ []) k u e ∙ sym e in
         record {
           sound = longer types t k h;
-          integer = ap (λ o. option_map_or (λ (t : TypeDef). is_range t.shape) o false) same;
+          integer = ap (λ o. is_some (option_and_then (λ (t : TypeDef). shape_range t.shape) o)) same;
           domain = ap (λ o. option_map_or (λ (t : TypeDef). shape_domain t.shape) o no_domain) same;
         }
 
