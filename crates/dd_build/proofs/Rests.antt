@@ -1,7 +1,7 @@
 -- What is left of a sum, at the positions of its first level.
 use Rattle.std.proofs.Common.{◌≡◌, ℕ, suc, ◌+◌, ◌<◌, ◌≤◌, ◌^◌, ℤ, pos, ◌+ℤ◌, ◌*ℤ◌, unsigned_abs, w64, to_z, of_z, Bool, List, [], ◌∷◌, ◌++◌, length, get_or, set, drop, refl, sym, ap, ap₂, ◌∙◌, arith, get_or-set_other}
 use Rattle.std.proofs.lemmas.Int.{ints, to_z-of_z}
-use Rattle.std.proofs.lemmas.List.{length-map}
+use Rattle.std.proofs.lemmas.List.{length-map, drop_more, drop_all}
 use Rattle.scr_spec.specs.declared.spec.Domain.{Domain}
 use Rattle.scr_formula.specs.declared.formula.Op.{Op}
 use Rattle.scr_formula.specs.declared.formula.Term.{Term}
@@ -21,9 +21,9 @@ use Rattle.dd_build.specs.declared.linear.Turn.{Turn}
 use Rattle.dd_build.specs.Built.{Keeps, IsOver, IsBuilt, IsWithin}
 use Rattle.dd_build.specs.Atoms.{codes_at}
 use Rattle.dd_build.specs.Sums.{AreOrderedTerms, rest_of, rest_at, sum_at, term_of, IsTurn}
-use Rattle.dd_build.proofs.FactorLaws.{drop_at, no_term, fits_small}
+use Rattle.dd_build.proofs.FactorLaws.{no_term, fits_small}
 use Rattle.dd_build.proofs.TermLaws.{value-cons}
-use Rattle.dd_build.proofs.Subtotals.{term_there, drop_end}
+use Rattle.dd_build.proofs.Subtotals.{term_there}
 use Rattle.dd_build.proofs.Stores.{Keeps-itself, IsBuilt-known}
 use Rattle.dd_build.proofs.Cofactors.{AreCofactors, IsSpan, SoFar, step, next_within, too_many, now_within, is_split, is_over, Finished, finish}
 
@@ -69,7 +69,7 @@ module _ (held : Held) (h : IsHeld held) (op : Op) (ts : List Term) (from : Subt
     in_range = in_range;
     many = length-cofactors_of (sizes held) h.codes (term_of ts from.place).level (left_at held.domains op (term_of ts from.place) (drop (from.place + 1) ts) from.sum);
     ordered = IsOrderedFrom-cofactors_of (sizes held) h.codes (term_of ts from.place).level (left_at held.domains op (term_of ts from.place) (drop (from.place + 1) ts) from.sum) in_range free;
-    is_join = ap (λ xs. rest_of held.domains op xs from.sum) (drop_at ts from.place no_term left)
+    is_join = ap (λ xs. rest_of held.domains op xs from.sum) (drop_more ts from.place no_term left)
         ∙ tree_of-join (sizes held) h.codes (λ v. meets_zero op (from.sum +ℤ terms_value (codes_at held.domains v) (term_of ts from.place ∷ drop (from.place + 1) ts)))
         (left_at held.domains op (term_of ts from.place) (drop (from.place + 1) ts) from.sum) (term_of ts from.place).level in_range free
         (λ v typed. ap (λ z. meets_zero op (from.sum +ℤ z)) (value-cons (codes_at held.domains v) (term_of ts from.place) (drop (from.place + 1) ts))
@@ -147,4 +147,4 @@ meets_is op from b small e = e ∙ ap (meets_zero op) (to_z-of_z w64 from.sum (f
 pub IsBuilt-leaf : (held : Held) → IsHeld held → (op : Op) (ts : List Term) (from : Subtotal) (b : Bool) (id : ℕ) → length ts ≤ from.place → b ≡ meets_zero op from.sum → Has held id (leaf b) → IsBuilt held held (rest_at held.domains op ts from) id
 IsBuilt-leaf held h op ts from b id past e has =
     IsBuilt-known held held (rest_at held.domains op ts from) id h (Keeps-itself held h) refl
-    (record { known = has.known; tree = has.tree ∙ ap leaf e ∙ sym (rest_none held h op ts from (drop_end ts from.place past)) })
+    (record { known = has.known; tree = has.tree ∙ ap leaf e ∙ sym (rest_none held h op ts from (drop_all from.place ts past)) })

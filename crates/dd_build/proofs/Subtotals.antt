@@ -1,9 +1,9 @@
 -- One term more of a sum.
-use Rattle.std.proofs.Common.{◌≡◌, ◌≢◌, ℕ, zero, suc, ◌+◌, ◌-◌, ◌<◌, ◌≤◌, ◌^◌, ℤ, pos, ◌+ℤ◌, ◌*ℤ◌, ◌≤ℤ◌, unsigned_abs, max, List, [], ◌∷◌, length, get_or, drop, FitsSigned, w64, to_z, of_z, refl, sym, ap, ap₂, subst, ◌∙◌, arith}
+use Rattle.std.proofs.Common.{◌≡◌, ◌≢◌, ℕ, zero, suc, ◌+◌, ◌-◌, ◌<◌, ◌≤◌, ◌^◌, ℤ, pos, ◌+ℤ◌, ◌*ℤ◌, ◌≤ℤ◌, unsigned_abs, max, List, [], ◌∷◌, length, get_or, drop, FitsSigned, w64, to_z, of_z, sym, ap, ap₂, subst, ◌∙◌, arith}
 use Rattle.std.specs.Prelude.{sum_by}
 use Rattle.std.specs.List.{All}
 use Rattle.std.proofs.lemmas.Int.{ints, unsigned_abs-mul, to_z-of_z}
-use Rattle.std.proofs.lemmas.List.{get_or-map}
+use Rattle.std.proofs.lemmas.List.{get_or-map, drop_more, drop_all}
 use Rattle.std.proofs.lemmas.List.Sums.{sum_by-cons}
 use Rattle.std.proofs.Math.Nat.{mul-le-mul_left}
 use Rattle.scr_spec.specs.declared.spec.Domain.{Domain}
@@ -17,7 +17,7 @@ use Rattle.dd_store.proofs.Codes.{no_domain, domain_at, low_at, code_at-within}
 use Rattle.dd_build.specs.declared.linear.Subtotal.{Subtotal}
 use Rattle.dd_build.specs.Atoms.{bound_of, term_measure}
 use Rattle.dd_build.specs.Sums.{AreOrderedTerms, rest_of, sum_at, term_of, IsSubtotal, IsNextSubtotal, IsAlike, IsTurn}
-use Rattle.dd_build.proofs.FactorLaws.{drop_at, no_term, abs_sum, fits_small}
+use Rattle.dd_build.proofs.FactorLaws.{no_term, abs_sum, fits_small}
 use Rattle.dd_build.proofs.Integers.{times_sum}
 
 -- a number between two is within the greater of their absolute values
@@ -61,7 +61,7 @@ reckoned_term ds ts from position h ordered s lt inside =
     let code = code_at ds t.level position in
     let there = term_there 0 (length ds) ts from.place ordered lt in
     let bounded = code_bounded ds t.level position h there.level inside in
-    let cut = ap (sum_by (term_measure ds)) (drop_at ts from.place no_term lt) ∙ sum_by-cons (term_measure ds) t (drop (from.place + 1) ts) in
+    let cut = ap (sum_by (term_measure ds)) (drop_more ts from.place no_term lt) ∙ sum_by-cons (term_measure ds) t (drop (from.place + 1) ts) in
     let product : unsigned_abs (t.factor *ℤ code) ≤ term_measure ds t = omega (arith, unsigned_abs-mul t.factor code, mul-le-mul_left (unsigned_abs t.factor) bounded) in
     let sum = abs_sum from.sum (t.factor *ℤ code) in
     let small = s.small in
@@ -111,13 +111,6 @@ IsTurn-one ds ts from size position next lt n = record {
       ap₂ (λ i z. rest_of ds op (drop i ts) z) (sym n.place) (ap (sum_at ds (term_of ts from.place) from.sum) e ∙ sym n.sum);
 }
 
--- nothing is left behind the last place
-pub drop_end : (ts : List Term) (i : ℕ) → length ts ≤ i → drop i ts ≡ []
-drop_end [] zero h = refl
-drop_end [] (suc i) h = refl
-drop_end (t ∷ ts) zero h = absurd (omega arith)
-drop_end (t ∷ ts) (suc i) h = drop_end ts i (omega arith)
-
 -- a turn of so many positions, behind the last term
 pub IsTurn-last : (ds : List Domain) (ts : List Term) (from : Subtotal) (size position steps : ℕ) (next : Subtotal) (factor : ℤ) → position < size → steps ≤ size - 1 - position → IsNextSubtotal ds ts from position next → length ts ≤ next.place
     → factor ≡ (term_of ts from.place).factor → IsAlike next.sum factor steps → IsTurn ds ts from size position (record { last = position + steps; next = next })
@@ -129,8 +122,8 @@ IsTurn-last ds ts from size position steps next factor lt few n past e alike = r
   same = λ op p le ge.
       let t = term_of ts from.place in
       let k : position + (p - position) ≡ p = omega arith in
-      let none : drop (from.place + 1) ts ≡ [] = drop_end ts (from.place + 1) (omega (arith, n.place)) in
-      let none_next : drop next.place ts ≡ [] = drop_end ts next.place past in
+      let none : drop (from.place + 1) ts ≡ [] = drop_all (from.place + 1) ts (omega (arith, n.place)) in
+      let none_next : drop next.place ts ≡ [] = drop_all next.place ts past in
       let sum : sum_at ds t from.sum p ≡ next.sum +ℤ factor *ℤ pos (p - position) =
       ap (sum_at ds t from.sum) (sym k) ∙ sum_further ds t from.sum position (p - position) ∙ ap₂ (λ x y. x +ℤ y *ℤ pos (p - position)) (sym n.sum) (sym e) in
       ap (λ xs. rest_of ds op xs (sum_at ds t from.sum p)) none
