@@ -3,7 +3,7 @@ use Rattle.std.proofs.Common.{◌≡◌, ℕ, ◌<◌, ◌≤◌, Bool, true, fa
 use Rattle.std.specs.Prelude.{Option, Some, None, is_none, is_some, slice_get}
 use Rattle.std.specs.Option.{option_map, option_map_or}
 use Rattle.std.specs.List.{list_any, list_all, range_with_len}
-use Rattle.std.proofs.lemmas.Bool.{and_parts, or_cases, cases_lt, both_ways, false≢true, eqb-true}
+use Rattle.std.proofs.lemmas.Bool.{and_parts, or_cases, cases_lt, both_ways, false≢true, eqb-true, ltb-true}
 use Rattle.std.proofs.lemmas.Option.{slice_get-map, slice_get-get_or, slice_get_past}
 use Rattle.std.proofs.lemmas.List.FromFn.{get_or-map-range_with_len, length-map-range_with_len}
 use Rattle.scr_spec.specs.Data.{Data}
@@ -25,8 +25,9 @@ use Rattle.scr_depend.specs.Reads.{table_reads}
 use Rattle.scr_depend.specs.Orders.{IsOrder, HasOrder}
 use Rattle.scr_depend.specs.Walks.{IsCircular}
 use Rattle.scr_depend.specs.Results.{IsOrderOf}
-use Rattle.scr_depend.specs.Laws.{OneOrder}
-use Rattle.scr_depend.proofs.Numbers.{passing, passing_member, none_among}
+use Rattle.scr_depend.specs.Laws.{WholeGraph, OneOrder}
+use Rattle.scr_depend.proofs.Numbers.{passing_member, member_passing, none_among}
+use Rattle.scr_depend.proofs.Declared.{read_declared}
 use Rattle.scr_depend.proofs.Places.{once_ordered, order_iff, stands_behind}
 
 -- ---- variables with tables
@@ -101,6 +102,37 @@ pub only_dependent_read : (spec : Data) → IsSound spec → OnlyDependentRead (
 unfolding reads_in
 only_dependent_read spec sound v w read =
     dependent_is spec v ∙ reader_depends spec spec.tables v w (rules_kept spec sound).tabled.heads (read_by_table spec v w read)
+
+-- a dependent variable is declared
+place_within : (xs : List Variable) (v : ℕ) → option_map_or depends (slice_get xs v) false ≡ true → v < length xs
+place_within xs v h =
+    elim (cases_lt v (length xs)) [
+      | inl within ↦ within
+      | inr past ↦ absurd (both_ways (option_map_or depends (slice_get xs v) false) (ap (λ (o : Option Variable). option_map_or depends o false) (slice_get_past xs v past)) h)
+    ]
+
+-- what a table reads is read in the graph
+read_in_graph : (spec : Data) → IsSound spec → (v w : ℕ) → reads_in spec.tables v w ≡ true → reads (graph_of spec) v w ≡ true
+unfolding reads_in reads_below
+read_in_graph spec sound v w h =
+    let reader : v < length spec.variables = place_within spec.variables v (reader_depends spec spec.tables v w (rules_kept spec sound).tabled.heads h) in
+    let read : w < length spec.variables = ltb-true w (length spec.variables) (read_declared spec v w sound.tables h) in
+    ap (λ (l : List ℕ). is_among l w) (reads_within (length spec.variables) spec.tables v reader)
+    ∙ member_passing (reads_in spec.tables v) (length spec.variables) w read h
+
+read_within : (spec : Data) → IsSound spec → (v w : ℕ) → reads_in spec.tables v w ≡ true → w < length spec.variables
+unfolding reads_in
+read_within spec sound v w h = ltb-true w (length spec.variables) (read_declared spec v w sound.tables h)
+
+pub whole_graph : WholeGraph
+whole_graph = record {
+  whole = λ spec sound. record {
+    dependent = dependent_is spec;
+    reading = λ v w. (read_by_table spec v w, read_in_graph spec sound v w);
+    readers = only_dependent_read spec sound;
+    declared = λ v w read. read_within spec sound v w (read_by_table spec v w read);
+  };
+}
 
 pub only_dependent_of : (spec : Data) (dependent : List Bool) (lists : List ReadList) → IsSound spec → dependent ≡ dependents spec.variables → lists ≡ read_lists spec → OnlyDependentRead (record { dependent = dependent; reads = lists })
 only_dependent_of spec dependent lists sound d r =

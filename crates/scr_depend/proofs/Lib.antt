@@ -8,4 +8,5 @@ pub mod Rows
 pub mod Returns
 pub mod Places
 pub mod Reach
+pub mod Declared
 pub mod Dependent

@@ -13,5 +13,5 @@ mod walk;
 pub use closure::need;
 pub use fault::DependFault;
 pub use graph::ReadList;
-pub use law::one_order;
+pub use law::{one_order, whole_graph};
 pub use order::{Order, order_of};
