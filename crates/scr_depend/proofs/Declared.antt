@@ -6,7 +6,7 @@ use Rattle.std.proofs.lemmas.Bool.{and_parts, or_cases, eqb-true, false≢true}
 use Rattle.scr_spec.specs.Data.{Data}
 use Rattle.scr_spec.specs.Types.{is_narrow}
 use Rattle.scr_spec.specs.Over.{is_operand_over, is_item_over, is_side_over, side_bound, over_step, is_cond_over}
-use Rattle.scr_spec.specs.Events.{is_change_over, is_guard_over, is_prim_over, is_event_over}
+use Rattle.scr_spec.specs.Events.{is_change_over, is_guard_over, is_prim_over}
 use Rattle.scr_spec.specs.Cells.{is_class_over, is_cell_over, is_row_over, is_small, is_table_over}
 use Rattle.scr_spec.specs.declared.cond.Operand.{Operand}
 use Rattle.scr_spec.specs.declared.cond.Operand.TheVariants.{One, Truth as Flag, Constant, Label, Variable, Primed}
@@ -18,14 +18,13 @@ use Rattle.scr_spec.specs.declared.cond.Cond.TheFolds.{map-Cond}
 use Rattle.scr_spec.specs.declared.table.Change.{Change}
 use Rattle.scr_spec.specs.declared.table.Change.TheVariants.{Becomes, Ceases, Changes, Never}
 use Rattle.scr_spec.specs.declared.table.Primitive.{Primitive}
-use Rattle.scr_spec.specs.declared.table.Event.{Event}
 use Rattle.scr_spec.specs.declared.table.Cell.{Cell}
 use Rattle.scr_spec.specs.declared.table.Cell.TheVariants as cell
 use Rattle.scr_spec.specs.declared.table.Row.{Row}
 use Rattle.scr_spec.specs.declared.table.Heading.{Heading}
 use Rattle.scr_spec.specs.declared.table.Heading.TheVariants as heading
 use Rattle.scr_spec.specs.declared.table.Table.{Table}
-use Rattle.scr_depend.specs.Reads.{operand_names, operand_primes, item_names, item_primes, side_names, side_primes, names_step, cond_names, change_reads, prim_reads, event_reads, cell_reads, row_reads, value_reads, is_class, class_reads, table_reads}
+use Rattle.scr_depend.specs.Reads.{operand_names, operand_primes, item_names, item_primes, side_names, side_primes, names_step, cond_names, change_reads, prim_reads, cell_reads, row_reads, value_reads, is_class, class_reads, table_reads}
 use Rattle.scr_depend.specs.Dependencies.{is_reader}
 
 -- the specification has a variable w

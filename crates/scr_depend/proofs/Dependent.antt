@@ -1,5 +1,5 @@
 -- In the graph of a specification only dependent variables read.
-use Rattle.std.proofs.Common.{◌≡◌, ℕ, ◌<◌, ◌≤◌, Bool, true, false, ◌&&◌, not, nat_eq, eqb, List, [], ◌∷◌, length, map, refl, arith, ap, subst, sym, ◌∙◌, inl, inr}
+use Rattle.std.proofs.Common.{◌≡◌, ℕ, ◌<◌, ◌≤◌, Bool, true, false, not, nat_eq, List, [], ◌∷◌, length, map, refl, arith, ap, subst, sym, ◌∙◌, inl, inr}
 use Rattle.std.specs.Prelude.{Option, Some, None, is_none, is_some, slice_get}
 use Rattle.std.specs.Option.{option_map, option_map_or}
 use Rattle.std.specs.List.{list_any, list_all, range_with_len}
@@ -19,16 +19,15 @@ use Rattle.scr_spec.specs.declared.table.Table.{Table}
 use Rattle.scr_spec.proofs.Kept.{rules_kept}
 use Rattle.scr_depend.specs.declared.graph.ReadList.{ReadList}
 use Rattle.scr_depend.specs.declared.order.Order.{Order}
-use Rattle.scr_depend.specs.Graphs.{is_among, list_at, reads_of, reads, is_dependent, OnlyDependentRead}
+use Rattle.scr_depend.specs.Graphs.{is_among, list_at, reads, is_dependent, OnlyDependentRead}
 use Rattle.scr_depend.specs.Dependencies.{depends, dependents, is_reader, reads_in, reads_below, read_list, lists_below, read_lists, graph_of}
 use Rattle.scr_depend.specs.Reads.{table_reads}
-use Rattle.scr_depend.specs.Orders.{IsOrder, HasOrder}
-use Rattle.scr_depend.specs.Walks.{IsCircular}
+use Rattle.scr_depend.specs.Orders.{IsOrder}
 use Rattle.scr_depend.specs.Results.{IsOrderOf}
 use Rattle.scr_depend.specs.Laws.{WholeGraph, OneOrder}
-use Rattle.scr_depend.proofs.Numbers.{passing_member, member_passing, none_among}
+use Rattle.scr_depend.proofs.Numbers.{passing_member, member_passing}
 use Rattle.scr_depend.proofs.Declared.{read_declared}
-use Rattle.scr_depend.proofs.Places.{once_ordered, order_iff, stands_behind}
+use Rattle.scr_depend.proofs.Places.{none_among, once_ordered, order_iff, stands_behind}
 
 -- ---- variables with tables
 

@@ -1,9 +1,7 @@
 -- The lists of a graph, one variable more at a time.
-use Rattle.std.proofs.Common.{◌≡◌, ℕ, ◌+◌, Bool, true, false, List, [], ◌∷◌, ◌++◌, map, refl, arith}
-use Rattle.std.specs.List.{range_with_len}
+use Rattle.std.proofs.Common.{◌≡◌, ℕ, ◌+◌, true, false, List, [], ◌∷◌, ◌++◌, refl, arith}
 use Rattle.std.proofs.lemmas.List.FromFn.{map-range_with_len_more}
 use Rattle.scr_spec.specs.declared.table.Table.{Table}
-use Rattle.scr_depend.specs.declared.graph.ReadList.{ReadList}
 use Rattle.scr_depend.specs.Dependencies.{reads_in, reads_below, read_list, lists_below}
 use Rattle.scr_depend.proofs.Numbers.{passing_push, passing_kept}
 

@@ -1,13 +1,11 @@
 -- What is reached by one or more reads.
-use Rattle.std.proofs.Common.{◌≡◌, ℕ, ◌+◌, ◌<◌, ◌≤◌, ◌⊎◌, Bool, true, false, List, [], ◌∷◌, ◌++◌, length, get_or, refl, arith, ap, subst, inl, inr, sym, ◌∙◌}
-use Rattle.std.proofs.lemmas.Bool.{cases_eq, both_ways, false≢true, and_parts, and_from}
+use Rattle.std.proofs.Common.{◌≡◌, ℕ, ◌+◌, ◌<◌, ◌≤◌, ◌⊎◌, Bool, true, List, [], ◌∷◌, ◌++◌, length, refl, arith, ap, subst, inl, inr, sym, ◌∙◌}
+use Rattle.std.proofs.lemmas.Bool.{cases_eq, both_ways, and_parts, and_from}
 use Rattle.std.proofs.lemmas.List.{length_push}
-use Rattle.std.proofs.lemmas.List.Quantifiers.{all_pairs_push}
 use Rattle.std.specs.Prelude.{◌↔◌}
-use Rattle.std.specs.List.{AllPairs}
 use Rattle.scr_depend.specs.declared.graph.Graph.{Graph}
-use Rattle.scr_depend.specs.Graphs.{reads, is_among, is_dependent, OnlyDependentRead}
-use Rattle.scr_depend.specs.Walks.{Walk, Needs}
+use Rattle.scr_depend.specs.Graphs.{reads, is_dependent, OnlyDependentRead}
+use Rattle.scr_depend.specs.Walks.{Walk}
 use Rattle.scr_depend.specs.Marks.{is_marked}
 use Rattle.scr_depend.specs.Marks.{is_needed, needed_below, IsReadByMarked, IsNextMark, IsSpread, AreReached}
 use Rattle.scr_depend.specs.Needs.{IsNeed}
