@@ -26,14 +26,14 @@ fn is_read_by_marked(g: &Graph, marks: &[bool], w: usize) -> bool
     false
 }
 
-/// Whether v or a marked variable reads w.
+/// Whether w is marked, or v or a marked variable reads it.
 fn is_reached_next(g: &Graph, v: usize, marks: &[bool], w: usize) -> bool
     ensures { IsNextMark g.now v marks.now w result }
 {
-    is_among(g.reads_of(v), w) || is_read_by_marked(g, marks, w)
+    is_marked(marks, w) || is_among(g.reads_of(v), w) || is_read_by_marked(g, marks, w)
 }
 
-/// Marks those that v or a marked variable reads.
+/// Keeps the marks, and marks those that v or a marked variable reads.
 #[tactic(auto, using(crate::proofs::Reach::spread_steps))]
 fn spread(alloc: Global, g: &Graph, v: usize, marks: &[bool]) -> Result<Items<bool>, NoMemory>
     ensures { IfOk result (IsSpread g.now v marks.now) }
