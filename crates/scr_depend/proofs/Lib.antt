@@ -1,0 +1,12 @@
+pub mod Names
+pub mod Numbers
+pub mod Lists
+pub mod Count
+pub mod Paths
+pub mod Ready
+pub mod Rows
+pub mod Returns
+pub mod Places
+pub mod Reach
+pub mod Declared
+pub mod Dependent

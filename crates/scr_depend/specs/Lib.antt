@@ -1,0 +1,9 @@
+pub mod Reads
+pub mod Graphs
+pub mod Dependencies
+pub mod Walks
+pub mod Orders
+pub mod Needs
+pub mod Results
+pub mod Laws
+pub mod Marks
