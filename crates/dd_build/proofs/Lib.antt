@@ -5,3 +5,17 @@ pub mod Leaves
 pub mod Runs
 pub mod Pieces
 pub mod Combining
+pub mod Integers
+pub mod Signs
+pub mod TermLaws
+pub mod FactorLaws
+pub mod Measures
+pub mod Subtotals
+pub mod Rests
+pub mod Sharing
+pub mod AtomLaws
+pub mod ListingLaws
+pub mod Additions
+pub mod FormulaTrees
+pub mod Progress
+pub mod Forms

@@ -9,3 +9,5 @@ pub mod Recalled
 pub mod NewStore
 pub mod Made
 pub mod Faults
+pub mod Children
+pub mod Codes

@@ -160,6 +160,7 @@ module _ (held : Held) (h : IsHeld held) (level : ℕ) (cs : List ℕ) (s : IsSp
   grown : (absent : Contains held.nodes (node level cs) → ⊥) → length held.nodes < held.limit → IsHeld (with_nodes held (held.nodes ++ node level cs ∷ []))
   unfolding trees
   grown absent room = record {
+    domains = h.domains;
     codes = h.codes;
     narrow = h.narrow;
     few = h.few;

@@ -26,6 +26,7 @@ bare ds limit = record { domains = ds; limit = limit; nodes = []; entries = [] }
 -- it keeps what every store keeps
 pub IsHeld-bare : (ds : List Domain) (limit : ℕ) → All IsDomain ds → limit ≤ 40000 → IsHeld (bare ds limit)
 IsHeld-bare ds limit h few = record {
+  domains = h;
   codes = codes_at ds;
   narrow = λ l. size_at ds l h;
   few = few;

@@ -65,6 +65,7 @@ IsResult-with_entries held es k r h = record { left = h.left; right = h.right; s
 -- entries that are all right may take their place
 IsHeld-with_entries : (held : Held) (es : List (MemoKey × ℕ)) → IsHeld held → ((e : MemoKey × ℕ) → Contains es e → IsResult held e.0 e.1) → IsHeld (with_entries held es)
 IsHeld-with_entries held es h all = record {
+  domains = h.domains;
   codes = h.codes;
   narrow = h.narrow;
   few = h.few;

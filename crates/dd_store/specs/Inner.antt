@@ -1,8 +1,7 @@
 -- The fields of a store, as what a contract sees of it.
 use Rattle.std.specs.Prelude.{◌≡◌}
-use Rattle.std.specs.List.{All, AllByRecursion}
+use Rattle.std.specs.List.{AllByRecursion}
 use Rattle.dd_store.specs.declared.store.Store.TheInside.{Inside}
-use Rattle.dd_store.specs.Domains.{IsDomain}
 use Rattle.dd_store.specs.Held.{Held}
 use Rattle.dd_store.specs.Kept.{IsHeld}
 use Rattle.dd_store.specs.Keys.{nodes_of, IsJoinedKey}
@@ -14,6 +13,5 @@ held_by s = record { domains = s.domains.items; limit = s.limit; nodes = nodes_o
 -- what they keep
 pub record IsInside (s : Inside) : Type 0 where
   pub held : IsHeld (held_by s)
-  pub domains : All IsDomain s.domains.items
   pub joined : AllByRecursion IsJoinedKey s.nodes.keys
   pub cap : s.memo.cap ≡ 16384

@@ -1,10 +1,11 @@
 -- What every store keeps.
 use Rattle.std.specs.Prelude.{◌≡◌, ℕ, ◌+◌, ◌<◌, ◌≤◌, List, [], ◌∷◌, ◌++◌, length, slice_index, IsFalse, Contains}
-use Rattle.std.specs.List.{AllByRecursion}
+use Rattle.std.specs.List.{All, AllByRecursion}
 use Rattle.dd_tree.specs.Tree.{Tree, has_tree}
 use Rattle.dd_tree.specs.Ordered.{IsOrderedFrom, HaveCodes}
 use Rattle.dd_tree.specs.Added.{splits, AreIn}
 use Rattle.dd_store.specs.declared.memo.MemoKey.{MemoKey}
+use Rattle.dd_store.specs.Domains.{IsDomain}
 use Rattle.dd_store.specs.Held.{Node, Held, sizes, at, tree_in, leaves, trees, IsKnown}
 use Rattle.dd_store.specs.Memo.{IsResult}
 
@@ -21,6 +22,7 @@ AreNodes sizes ts (n ∷ ns) = IsNode sizes ts n × AreNodes sizes (ts ++ tree_i
 
 -- what every store keeps: 1 to 8,192 codes a level, at most as many nodes as the limit, no tree twice, and right answers in its memo
 pub record IsHeld (held : Held) : Type 0 where
+  pub domains : All IsDomain held.domains
   pub codes : HaveCodes (sizes held)
   pub narrow : (l : ℕ) → slice_index (sizes held) l ≤ 8192
   pub few : held.limit ≤ 40000

@@ -1,12 +1,12 @@
 //! The store.
 
-ghost use Rattle.std.specs.Prelude.{◌≡◌, ℕ, ◌+◌, ◌<◌, ◌≤◌, length, IfOk, OnErr, OnOk, IfSome, slice_get, Some, []};
+ghost use Rattle.std.specs.Prelude.{◌≡◌, ℕ, ◌+◌, ◌<◌, ◌≤◌, length, IfOk, OnErr, OnOk, IfSome, slice_get, slice_index, Some, []};
 ghost use Rattle.std.specs.List.{All};
 ghost use Rattle.std.specs.Map.{lookup};
 ghost use Rattle.lru.specs.LruCache.{promoted};
 ghost use Rattle.dd_tree.specs.Tree.{leaf};
 ghost use Rattle.dd_tree.specs.Added.{add_tree};
-ghost use Rattle.dd_store.specs.Domains.{IsDomain};
+ghost use Rattle.dd_store.specs.Domains.{IsDomain, code_at};
 ghost use Rattle.dd_store.specs.Runs.{children_of, RiseFrom};
 ghost use Rattle.dd_store.specs.Held.{Held, sizes, leaves, trees, IsKnown, Has, IsSameButMemo};
 ghost use Rattle.dd_store.specs.Memo.{IsResult, key_eq, key_of, noted};
@@ -136,6 +136,13 @@ impl Store {
         }
     }
 
+    /// Nothing at run time. It tells a proof what every store keeps, which reading a field opens.
+    pub fn reveal(&self)
+        ensures { IsHeld self.now }
+    {
+        let _limit = self.limit;
+    }
+
     /// The allocator that the store was made with.
     pub fn allocator(&self) -> Global {
         *self.domains.allocator()
@@ -143,7 +150,8 @@ impl Store {
 
     /// The number of levels.
     pub fn levels(&self) -> usize
-        ensures { result ≡ length self.now.domains }
+        ensures levels { result ≡ length self.now.domains }
+        ensures held { IsHeld self.now }
     {
         self.domains.len()
     }
@@ -153,8 +161,20 @@ impl Store {
         requires { level < length self.now.domains }
         ensures domain { slice_get self.now.domains level ≡ Some result }
         ensures codes { IsDomain result }
+        ensures held { IsHeld self.now }
     {
         self.domains[level]
+    }
+
+    /// The code at a position of a level's domain.
+    pub fn code(&self, level: usize, position: usize) -> i64
+        requires level { level < length self.now.domains }
+        requires position { position < slice_index (sizes self.now) level }
+        ensures code { result ≡ code_at self.now.domains level position }
+        ensures held { IsHeld self.now }
+    {
+        let domain = self.domains[level];
+        domain.lo + position as i64
     }
 
     /// The split on a level in which each code has the child of its run, or that child itself where all

@@ -14,8 +14,6 @@ const TAIL: &str = "\nVALUES TRUE | FALSE\nEND\nFINISH\n";
 
 const REPORT: &[u8] = b"order: t\ntable t: yes\n";
 
-const UNBUILT: &[u8] = b"line 0: unbuilt\n";
-
 const USAGE: &[u8] = b"usage: scr check|simulate|invariants|emit|format|runc|generate|large ...\n";
 
 // The calls of the shelf and of the sink that fail, 0 for none, and the room of the sink.
@@ -114,12 +112,19 @@ fn reads_other_ends_of_lines(rt: HostRuntime) -> Result<(), Fail> {
 }
 
 #[test]
-fn refuses_what_is_not_built(rt: HostRuntime) -> Result<(), Fail> {
+fn refuses_texts(rt: HostRuntime) -> Result<(), Fail> {
     let alloc = rt.alloc();
     let unknown = text_with(alloc, "a AND c | NOT (a AND b)")?;
-    for bytes in [b"" as &[u8], unknown.as_bytes(), b"\x00\xff\xfe"] {
+    let text = text_with(alloc, ROW)?;
+    let accented = text.replace(alloc, "MONITORED a", "MONITORED \u{e9}")?;
+    for (bytes, fault) in [
+        (b"" as &[u8], b"line 1: end\n" as &[u8]),
+        (b"\x00\xff\xfe", b"line 1: byte\n"),
+        (accented.as_bytes(), b"line 2: byte\n"),
+        (unknown.as_bytes(), b"line 6: unknown c\n"),
+    ] {
         let (status, written) = check(alloc, bytes)?;
-        assert_eq!(rt; written.as_slice(), UNBUILT);
+        assert_eq!(rt; written.as_slice(), fault);
         assert_eq!(rt; status, Status::SpecRefused);
     }
     Ok(())
@@ -132,15 +137,19 @@ fn keeps_limits(rt: HostRuntime) -> Result<(), Fail> {
     let thirteen = text_over(alloc, 13)?;
     let full = text_of_length(alloc, 1_048_576)?;
     let longer = text_of_length(alloc, 1_048_577)?;
-    for (within, past) in [
-        (twelve.as_bytes(), thirteen.as_bytes()),
-        (full.as_slice(), longer.as_slice()),
+    for (within, past, fault) in [
+        (
+            twelve.as_bytes(),
+            thirteen.as_bytes(),
+            b"line 0: unbuilt\n" as &[u8],
+        ),
+        (full.as_slice(), longer.as_slice(), b"line 0: limit\n"),
     ] {
         let (status, written) = check(alloc, within)?;
         assert_eq!(rt; written.as_slice(), REPORT);
         assert_eq!(rt; status, Status::Done);
         let (status, written) = check(alloc, past)?;
-        assert_eq!(rt; written.as_slice(), UNBUILT);
+        assert_eq!(rt; written.as_slice(), fault);
         assert_eq!(rt; status, Status::SpecRefused);
     }
     Ok(())

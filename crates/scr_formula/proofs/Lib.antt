@@ -7,3 +7,10 @@ pub mod SideTruth
 pub mod ConditionTruth
 pub mod SideMeasure
 pub mod ConditionMeasure
+pub mod Growth
+pub mod JoinTruth
+pub mod EventTruth
+pub mod EventMeasure
+pub mod TableTruth
+pub mod TableMeasure
+pub mod FrozenLaws

@@ -4,3 +4,6 @@ pub mod Sides
 pub mod Joined
 pub mod Conditions
 pub mod Measure
+pub mod Events
+pub mod Tables
+pub mod Frozen

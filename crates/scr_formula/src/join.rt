@@ -1,6 +1,6 @@
 //! Formulas joined by not, and, or.
-ghost use Rattle.std.specs.Prelude.{◌≡◌, IfOk};
-ghost use Rattle.scr_formula.specs.declared.formula.Formula.TheVariants.{Not};
+ghost use Rattle.std.specs.Prelude.{◌≡◌, [], ◌∷◌, IfOk};
+ghost use Rattle.scr_formula.specs.declared.formula.Formula.TheVariants.{Not, And, Or};
 ghost use Rattle.scr_formula.specs.Joined.{all_of, any_of};
 
 use crate::Formula;
@@ -12,6 +12,24 @@ pub fn negation(alloc: Global, f: Formula) -> Result<Formula, NoMemory>
     ensures { IfOk result (λ g. g ≡ Not f) }
 {
     Ok(Formula::Not(Boxed::new(alloc, f)?))
+}
+
+pub fn both(alloc: Global, f: Formula, g: Formula) -> Result<Formula, NoMemory>
+    ensures { IfOk result (λ h. h ≡ And (f ∷ g ∷ [])) }
+{
+    let mut members = Items::new(alloc);
+    members.push(f)?;
+    members.push(g)?;
+    Ok(Formula::And(members))
+}
+
+pub fn either(alloc: Global, f: Formula, g: Formula) -> Result<Formula, NoMemory>
+    ensures { IfOk result (λ h. h ≡ Or (f ∷ g ∷ [])) }
+{
+    let mut members = Items::new(alloc);
+    members.push(f)?;
+    members.push(g)?;
+    Ok(Formula::Or(members))
 }
 
 pub fn conjunction(mut members: Items<Formula>) -> Formula

@@ -2,11 +2,19 @@
 //! specification.
 #![tactic(auto)]
 
+mod cell;
 mod condition;
+mod event;
 mod formula;
+mod frozen;
 mod join;
 mod level;
+mod relation;
 mod side;
+mod value;
 
 pub use condition::of_cond;
+pub use event::of_event;
 pub use formula::{Formula, Linear, Op, Term};
+pub use frozen::only_changed;
+pub use relation::{of_own, of_relation};

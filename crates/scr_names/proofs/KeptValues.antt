@@ -99,7 +99,7 @@ value_inside : (known : Known) (side : DraftSide) (o : Option Domain) → option
 value_inside known side None h = refl
 value_inside known side (Some d) h = or_imply _ _ _ _ (items_variable known side.items) (λ k. k) h
 
--- ---- together
+-- ---- a value
 
 pub value_kept : (known : Known) (h : Heading) (v : ℕ) (side : DraftSide) → has_values h ≡ true → is_side_spelt true side ≡ true → is_side_within side ≡ true
     → is_typed_value known h v side ≡ true → is_value_within known v side ≡ true → spec.is_value_sound (seen known) h v (side_of known side) ≡ true

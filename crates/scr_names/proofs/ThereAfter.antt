@@ -20,29 +20,29 @@ use Rattle.scr_names.specs.declared.meaning.Meaning.{Meaning}
 use Rattle.scr_names.specs.declared.meaning.Meaning.TheVariants as m
 use Rattle.scr_names.specs.declared.known.Known.{Known}
 use Rattle.scr_names.specs.Names.{Name, NameList, is_known, with_name}
-use Rattle.scr_names.specs.Meanings.{seen, nothing, variable_named}
+use Rattle.scr_names.specs.Meanings.{seen, variable_named}
 use Rattle.scr_names.specs.Declarations.{with_labels, bounded, with_bound_at, with_declaration}
 use Rattle.scr_names.proofs.There.{is_there, are_there, NamesThere}
 
 -- ---- places
 
-place_below : (names : List Name) (j : ℕ) → j < length names → is_place names (pos j) ≡ true
+pub place_below : (names : List Name) (j : ℕ) → j < length names → is_place names (pos j) ≡ true
 place_below names j h = let low : 0 ≤ j = omega arith in and_true _ _ (le-leb 0 j low) (lt-ltb j (length names) h)
 
 -- no list has no place
-no_place : {A : Type 0} (j : ℕ) → is_place [] (pos j) ≡ true → A
+pub no_place : {A : Type 0} (j : ℕ) → is_place [] (pos j) ≡ true → A
 no_place j h = let l = ltb-true j 0 ((and_parts (int_le (pos 0) (pos j)) (int_lt (pos j) (pos 0)) h).1) in absurd (omega arith)
 
 -- ---- lists that grow at their end
 
-longer : {X : Type 0} (xs : List X) (x : X) (k : ℕ) → nat_lt k (length xs) ≡ true → nat_lt k (length (xs ++ x ∷ [])) ≡ true
+pub longer : {X : Type 0} (xs : List X) (x : X) (k : ℕ) → nat_lt k (length xs) ≡ true → nat_lt k (length (xs ++ x ∷ [])) ≡ true
 longer xs x k h = let n = length-append xs (x ∷ []) in let l = ltb-true k (length xs) h in lt-ltb k (length (xs ++ x ∷ [])) (omega arith)
 
-last_there : {X : Type 0} (xs : List X) (x : X) → nat_lt (length xs) (length (xs ++ x ∷ [])) ≡ true
+pub last_there : {X : Type 0} (xs : List X) (x : X) → nat_lt (length xs) (length (xs ++ x ∷ [])) ≡ true
 last_there xs x = let n = length-append xs (x ∷ []) in lt-ltb (length xs) (length (xs ++ x ∷ [])) (omega arith)
 
 -- the list that the k-th gives
-abbrev list_at : {X : Type 0} → (X → List Name) → List X → ℕ → List Name
+abbrev pub list_at : {X : Type 0} → (X → List Name) → List X → ℕ → List Name
 list_at labels xs k = option_map_or labels (slice_get xs k) []
 
 place_kept : {X : Type 0} (labels : X → List Name) (xs : List X) (x : X) (k j : ℕ) → is_place (list_at labels xs k) (pos j) ≡ true → is_place (list_at labels (xs ++ x ∷ []) k) (pos j) ≡ true
@@ -50,7 +50,7 @@ place_kept labels [] x k j h = no_place j h
 place_kept labels (y ∷ ys) x zero j h = h
 place_kept labels (y ∷ ys) x (suc k) j h = place_kept labels ys x k j h
 
-last_list : {X : Type 0} (labels : X → List Name) (xs : List X) (x : X) → list_at labels (xs ++ x ∷ []) (length xs) ≡ labels x
+pub last_list : {X : Type 0} (labels : X → List Name) (xs : List X) (x : X) → list_at labels (xs ++ x ∷ []) (length xs) ≡ labels x
 last_list labels [] x = refl
 last_list labels (y ∷ ys) x = last_list labels ys x
 
@@ -119,12 +119,12 @@ list_there spec o names ns e h = labels_there spec o names 0 ns h (λ j l. ap (�
 
 -- ---- a bound changes no list
 
-same_length : (xs : List Variable) (v : ℕ) (x : Variable) → length (slice_set xs v x) ≡ length xs
+pub same_length : {X : Type 0} (xs : List X) (v : ℕ) (x : X) → length (slice_set xs v x) ≡ length xs
 same_length [] v x = refl
 same_length (y ∷ ys) zero x = refl
 same_length (y ∷ ys) (suc v) x = ap suc (same_length ys v x)
 
-same_lists : (xs : List Variable) (v w : ℕ) (step : ℤ) (o : Option Variable) → slice_get xs v ≡ o
+pub same_lists : (xs : List Variable) (v w : ℕ) (step : ℤ) (o : Option Variable) → slice_get xs v ≡ o
     → list_at (λ (y : Variable). kind_modes y.kind) (option_map_or (λ x. slice_set xs v (bounded step x)) o xs) w ≡ list_at (λ (y : Variable). kind_modes y.kind) xs w
 same_lists xs v w step None e = refl
 same_lists xs v w step (Some x) e = by xs v w e
@@ -157,10 +157,6 @@ bound_there known step None h = h
 bound_there known step (Some v) h = grown (seen known) (seen (with_bound_at known step v)) (bound_grows known step v) known.names h
 
 -- ---- a line
-
--- before the first line
-pub nothing_there : NamesThere nothing
-nothing_there = refl
 
 constant_more : (spec : Data) → (c : Constant) → Grows spec (record spec { constants = spec.constants ++ c ∷ [] })
 constant_more spec c = record { types = λ k h. h; constants = longer spec.constants c; variables = λ v h. h; labels = λ o j h. h }

@@ -51,10 +51,7 @@ fn find(names: &[Name], name: &[u8]) -> Option<usize>
 fn place_of(names: &[Name], name: &Name) -> usize
     ensures { result ≡ spec.place_of names.now name.now }
 {
-    match find(names, name.as_slice()) {
-        Some(place) => place,
-        None => 0,
-    }
+    find(names, name.as_slice()).unwrap_or(0)
 }
 
 fn copy_kind(alloc: Global, kind: &Kind) -> Result<Kind, NoMemory>

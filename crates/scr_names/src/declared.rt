@@ -25,13 +25,7 @@ fn fixed_sort(meaning: Meaning) -> Option<Sort>
 fn is_integer(types: &[TypeDef], kind: &Kind) -> bool
     ensures { result ≡ is_integer_kind types.now kind.now }
 {
-    match kind {
-        Kind::Named(k) => match types.get(*k) {
-            Some(declared) => declared.shape.range().is_some(),
-            None => false,
-        },
-        _ => false,
-    }
+    kind_range(types, kind).is_some()
 }
 
 impl Known {

@@ -91,12 +91,11 @@ impl Known {
     pub fn is_typed_event(&self, event: &DraftEvent) -> bool
         ensures { result ≡ spec.is_typed_event self.now event.now }
     {
-        for prim in event.prims.as_slice() {
-            if !self.is_typed_prim(prim) {
-                return false;
-            }
-        }
-        true
+        event
+            .prims
+            .as_slice()
+            .iter()
+            .all(|prim| self.is_typed_prim(prim))
     }
 
     /// Whether the cell is well typed.
@@ -137,12 +136,11 @@ impl Known {
     pub fn is_narrow_event(&self, event: &DraftEvent) -> bool
         ensures { result ≡ spec.is_narrow_event self.now event.now }
     {
-        for prim in event.prims.as_slice() {
-            if !self.is_narrow_prim(prim) {
-                return false;
-            }
-        }
-        true
+        event
+            .prims
+            .as_slice()
+            .iter()
+            .all(|prim| self.is_narrow_prim(prim))
     }
 
     /// Whether the bound of each side of the cell is at most 2,000,000,000.
@@ -158,10 +156,7 @@ impl Known {
     fn variable_of_change(&self, name: &Name) -> usize
         ensures { result ≡ spec.changing self.now name.now }
     {
-        match self.variable_named(name) {
-            Some(v) => v,
-            None => 0,
-        }
+        self.variable_named(name).unwrap_or(0)
     }
 
     fn change_of(&self, alloc: Global, change: &DraftChange) -> Result<Change, NoMemory>

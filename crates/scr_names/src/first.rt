@@ -19,12 +19,7 @@ pub fn unless(right: bool, name: &Name) -> Option<&Name>
 pub fn is_among(names: &[Name], name: &Name) -> bool
     ensures { result ≡ list_any (bytes_eq name.now) names.now }
 {
-    for other in names {
-        if name.is_same(other) {
-            return true;
-        }
-    }
-    false
+    names.iter().any(|other| name.is_same(other))
 }
 
 /// The first of the names that is declared, or stands before it or among `own`.

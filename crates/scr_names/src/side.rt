@@ -45,12 +45,7 @@ fn is_primed(item: &DraftItem) -> bool
 fn has_primes(side: &DraftSide) -> bool
     ensures { result ≡ list_any spec.is_primed side.now.items }
 {
-    for item in side.items.as_slice() {
-        if is_primed(item) {
-            return true;
-        }
-    }
-    false
+    side.items.as_slice().iter().any(is_primed)
 }
 
 fn takes_primes(heading: Heading) -> bool
@@ -99,10 +94,7 @@ impl Known {
     pub(crate) fn operand_of(&self, operand: &DraftOperand) -> Operand
         ensures { result ≡ spec.operand_of self.now operand.now }
     {
-        match self.operand_named(operand) {
-            Some(operand) => operand,
-            None => Operand::One,
-        }
+        self.operand_named(operand).unwrap_or(Operand::One)
     }
 
     fn item_of(&self, item: &DraftItem) -> Item
@@ -151,12 +143,9 @@ impl Known {
     fn are_integers(&self, items: &[DraftItem]) -> bool
         ensures { result ≡ list_all (spec.is_integer_item self.now) items.now }
     {
-        for item in items {
-            if !has_sort(Sort::Integer, self.item_sort(item)) {
-                return false;
-            }
-        }
-        true
+        items
+            .iter()
+            .all(|item| has_sort(Sort::Integer, self.item_sort(item)))
     }
 
     fn single_sort(&self, items: &[DraftItem]) -> Option<Sort>

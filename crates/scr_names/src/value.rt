@@ -109,12 +109,10 @@ impl Known {
     fn has_variable(&self, side: &DraftSide) -> bool
         ensures { result ≡ spec.has_variable self.now side.now }
     {
-        for item in side.items.as_slice() {
-            if self.is_variable_operand(&item.operand) {
-                return true;
-            }
-        }
-        false
+        side.items
+            .as_slice()
+            .iter()
+            .any(|item| self.is_variable_operand(&item.operand))
     }
 
     /// Whether a value for that variable names a variable, or lies in the domain of one that is an

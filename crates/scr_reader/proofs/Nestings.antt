@@ -25,7 +25,7 @@ use Rattle.scr_reader.specs.declared.draft.DraftCell.{DraftCell}
 use Rattle.scr_reader.specs.Words.{sign_of}
 use Rattle.scr_reader.specs.Limits.{depth_after, is_nested_within, nots_after, is_negated_within}
 use Rattle.scr_reader.specs.Nesting.{nots_step, nots_deep, ands_step, ands_deep, ors_step, ors_deep, is_shallow, is_change_shallow, is_prim_shallow, is_cell_shallow}
-use Rattle.scr_reader.proofs.ReadableParts.{both_true}
+use Rattle.scr_spec.proofs.Passing.{and_true}
 use Rattle.scr_reader.specs.Sides.{Reference, plain_name, primed_name, Item, number, times, reference, true_item, false_item, More, no_more, plus, minus, Side, side, minus_side}
 use Rattle.scr_reader.specs.Conds.{all_of, any_of, Lit, alone, compare, negated, nested, Conj, last_lit, lit_and, Cond, last_conj, conj_or}
 use Rattle.scr_reader.specs.Events.{Change, becomes, ceases, changes, Prim, never, unguarded, guarded, Event, last_prim, prim_or, Cell, condition, event, Cells, last_cell, cell_bar}
@@ -292,18 +292,18 @@ change_deep {rest = rest} (changes {name = name}) k =
 
 prim_deep : {from rest : List Word} {p : DraftPrim} → Prim from p rest → IsOutside from → (is_prim_shallow p ≡ true) × IsOutside rest
 prim_deep (never {rest = rest}) k = (refl, past (w.Reserved word.Never) rest refl k)
-prim_deep (unguarded {d = d} l e) k = let one = change_deep l k in (both_true (is_change_shallow d) true one.0 refl, one.1)
+prim_deep (unguarded {d = d} l e) k = let one = change_deep l k in (and_true (is_change_shallow d) true one.0 refl, one.1)
 prim_deep {rest = rest} (guarded {mid = mid} {d = d} {ds = ds} l ls) k =
     let one = change_deep l k in
     let from = past (w.Reserved word.When) mid refl one.1 in
     let guard = conj_deep ls 0 from.nots from.limited in
-    (both_true (is_change_shallow d) (is_shallow (all_of ds)) one.0 (all_shallow 0 from.nots ds rest guard), record { nots = guard.now; limited = guard.left })
+    (and_true (is_change_shallow d) (is_shallow (all_of ds)) one.0 (all_shallow 0 from.nots ds rest guard), record { nots = guard.now; limited = guard.left })
 
 pub event_deep : {from rest : List Word} {ps : List DraftPrim} → Event from ps rest → IsOutside from → (list_all is_prim_shallow ps ≡ true) × IsOutside rest
-event_deep (last_prim {p = p} l e) k = let one = prim_deep l k in (both_true (is_prim_shallow p) true one.0 refl, one.1)
+event_deep (last_prim {p = p} l e) k = let one = prim_deep l k in (and_true (is_prim_shallow p) true one.0 refl, one.1)
 event_deep (prim_or {mid = mid} {p = p} {ps = ps} l ls) k =
     let one = prim_deep l k in
-    let more = event_deep ls (past (w.Reserved word.Or) mid refl one.1) in (both_true (is_prim_shallow p) (list_all is_prim_shallow ps) one.0 more.0, more.1)
+    let more = event_deep ls (past (w.Reserved word.Or) mid refl one.1) in (and_true (is_prim_shallow p) (list_all is_prim_shallow ps) one.0 more.0, more.1)
 
 -- ---- cells
 
@@ -314,10 +314,10 @@ cell_deep {rest = rest} (condition {ds = ds} l) k =
 cell_deep (event l) k = event_deep l k
 
 pub cells_deep : {heading : Heading} {from : List Word} {ds : List DraftCell} → Cells heading from ds → IsOutside from → list_all is_cell_shallow ds ≡ true
-cells_deep (last_cell {d = d} l) k = both_true (is_cell_shallow d) true (cell_deep l k).0 refl
+cells_deep (last_cell {d = d} l) k = and_true (is_cell_shallow d) true (cell_deep l k).0 refl
 cells_deep (cell_bar {mid = mid} {d = d} {ds = ds} l ls) k =
     let one = cell_deep l k in
-    both_true (is_cell_shallow d) (list_all is_cell_shallow ds) one.0 (cells_deep ls (past (w.Sign s.Bar) mid refl one.1))
+    and_true (is_cell_shallow d) (list_all is_cell_shallow ds) one.0 (cells_deep ls (past (w.Sign s.Bar) mid refl one.1))
 
 -- ---- names
 

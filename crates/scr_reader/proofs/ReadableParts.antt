@@ -12,6 +12,7 @@ use Rattle.scr_text.specs.declared.word.Word.{Word}
 use Rattle.scr_text.specs.declared.word.Word.TheVariants as w
 use Rattle.scr_text.specs.declared.word.Sign.TheVariants as s
 use Rattle.scr_spec.specs.declared.table.Heading.{Heading}
+use Rattle.scr_spec.proofs.Passing.{and_true}
 use Rattle.scr_spec.specs.NameSpace.{is_name}
 use Rattle.scr_spec.specs.Types.{is_narrow}
 use Rattle.scr_reader.specs.declared.draft.DraftOperand.{DraftOperand}
@@ -33,12 +34,6 @@ use Rattle.scr_reader.specs.Conds.{all_of, any_of, Lit, alone, compare, negated,
 use Rattle.scr_reader.specs.Events.{Change, becomes, ceases, changes, Prim, never, unguarded, guarded, Event, last_prim, prim_or, Cell, condition, event, Cells, last_cell, cell_bar, Sides, last_side, side_bar}
 use Rattle.scr_reader.specs.Names.{Names, last_name, name_comma, Braced, braced, Int, plain_int, minus_int, KindOf, boolean, named_kind, Value, number_value, named_value, true_value, false_value}
 use Rattle.scr_reader.specs.Readable.{are_some, are_joined, is_operand_spelt, is_item_spelt, is_side_spelt, spelt_step, is_cond_spelt, is_change_spelt, is_guard_spelt, is_prim_spelt, is_cell_spelt, is_cell_of, is_kind_spelt, is_value_spelt}
-
--- ---- tests
-
-pub both_true : (a b : Bool) → a ≡ true → b ≡ true → (a && b) ≡ true
-both_true true b h k = k
-both_true false b h k = absurd (cc)
 
 -- ---- words
 
@@ -75,11 +70,11 @@ turned_narrow n h = grind (arith, ints, nat_tests)
 -- ---- names
 
 pub names_small : {n : ℕ} {from rest : List Word} {names : List (List ℕ)} → Names from names rest → AreSmall n from → (are_some is_name names ≡ true) × AreSmall n rest
-names_small (last_name {name = name} {rest = rest} d) k = (both_true (is_name name) true (first (w.Name name) rest k) refl, behind k)
+names_small (last_name {name = name} {rest = rest} d) k = (and_true (is_name name) true (first (w.Name name) rest k) refl, behind k)
 names_small (name_comma {name = name} {names = []} {from = from} d) k = let more = names_small d (behind (behind k)) in absurd (cc)
 names_small (name_comma {name = name} {names = m ∷ ms} {from = from} d) k =
     let more = names_small d (behind (behind k)) in
-    (both_true (is_name name) (list_all is_name (m ∷ ms)) (first (w.Name name) (w.Sign s.Comma ∷ from) k) more.0, more.1)
+    (and_true (is_name name) (list_all is_name (m ∷ ms)) (first (w.Name name) (w.Sign s.Comma ∷ from) k) more.0, more.1)
 
 pub braced_small : {n : ℕ} {from rest : List Word} {names : List (List ℕ)} → Braced from names rest → AreSmall n from → (are_some is_name names ≡ true) × AreSmall n rest
 braced_small (braced d) k = let more = names_small d (behind k) in (more.0, behind more.1)
@@ -108,10 +103,10 @@ reference_small (plain_name {name = name} {rest = rest}) k = (first (w.Name name
 reference_small (primed_name {name = name} {rest = rest}) k = (first (w.Primed name) rest k, behind k)
 
 item_small : {primes : Bool} {n : ℕ} {from rest : List Word} {item : DraftItem} → Item primes from item rest → AreSmall n from → (is_item_spelt primes item ≡ true) × AreSmall n rest
-item_small (number {n = v} {rest = rest} i d) k = (both_true (is_narrow v) true (natural_narrow v (first (w.Number v) rest k) i) refl, behind k)
+item_small (number {n = v} {rest = rest} i d) k = (and_true (is_narrow v) true (natural_narrow v (first (w.Number v) rest k) i) refl, behind k)
 item_small {primes} (times {n = v} {from = from} {operand = operand} i p) k =
     let more = reference_small p (behind (behind k)) in
-    (both_true (is_narrow v) (is_operand_spelt primes operand) (natural_narrow v (first (w.Number v) (w.Sign s.Times ∷ from) k) i) more.0, more.1)
+    (and_true (is_narrow v) (is_operand_spelt primes operand) (natural_narrow v (first (w.Number v) (w.Sign s.Times ∷ from) k) i) more.0, more.1)
 item_small (reference p) k = reference_small p k
 item_small true_item k = (refl, behind k)
 item_small false_item k = (refl, behind k)
@@ -120,7 +115,7 @@ item_small false_item k = (refl, behind k)
 turned_small : (primes : Bool) (item : DraftItem) → is_item_spelt primes item ≡ true → is_item_spelt primes (turned item) ≡ true
 turned_small primes item h =
     let parts = and_parts (is_narrow item.factor) (is_operand_spelt primes item.operand) h in
-    both_true (is_narrow (neg_ℤ item.factor)) (is_operand_spelt primes item.operand) (turned_narrow item.factor parts.0) parts.1
+    and_true (is_narrow (neg_ℤ item.factor)) (is_operand_spelt primes item.operand) (turned_narrow item.factor parts.0) parts.1
 
 more_small : {primes : Bool} {n : ℕ} {from rest : List Word} {items : List DraftItem} → More primes from items rest → AreSmall n from
     → (list_all (is_item_spelt primes) items ≡ true) × AreSmall n rest
@@ -128,21 +123,21 @@ more_small (no_more d e) k = (refl, k)
 more_small {primes} (plus {item = item} {items = items} d ds) k =
     let one = item_small d (behind k) in
     let more = more_small ds one.1 in
-    (both_true (is_item_spelt primes item) (list_all (is_item_spelt primes) items) one.0 more.0, more.1)
+    (and_true (is_item_spelt primes item) (list_all (is_item_spelt primes) items) one.0 more.0, more.1)
 more_small {primes} (minus {item = item} {items = items} d ds) k =
     let one = item_small d (behind k) in
     let more = more_small ds one.1 in
-    (both_true (is_item_spelt primes (turned item)) (list_all (is_item_spelt primes) items) (turned_small primes item one.0) more.0, more.1)
+    (and_true (is_item_spelt primes (turned item)) (list_all (is_item_spelt primes) items) (turned_small primes item one.0) more.0, more.1)
 
 pub side_small : {primes : Bool} {n : ℕ} {from rest : List Word} {l : DraftSide} → Side primes from l rest → AreSmall n from → (is_side_spelt primes l ≡ true) × AreSmall n rest
 side_small {primes} (side {item = item} {items = items} d ds) k =
     let one = item_small d k in
     let more = more_small ds one.1 in
-    (both_true (is_item_spelt primes item) (list_all (is_item_spelt primes) items) one.0 more.0, more.1)
+    (and_true (is_item_spelt primes item) (list_all (is_item_spelt primes) items) one.0 more.0, more.1)
 side_small {primes} (minus_side {item = item} {items = items} d ds) k =
     let one = item_small d (behind k) in
     let more = more_small ds one.1 in
-    (both_true (is_item_spelt primes (turned item)) (list_all (is_item_spelt primes) items) (turned_small primes item one.0) more.0, more.1)
+    (and_true (is_item_spelt primes (turned item)) (list_all (is_item_spelt primes) items) (turned_small primes item one.0) more.0, more.1)
 
 -- ---- conditions
 
@@ -177,10 +172,10 @@ any_spelt (d ∷ e ∷ ds) h = spelt_Or (d ∷ e ∷ ds) ∙ two_joined d e ds h
 -- one more in front
 more_spelt : {X : Type 0} (test : X → Bool) (x : X) (xs : List X) → test x ≡ true → are_some test xs ≡ true → are_some test (x ∷ xs) ≡ true
 more_spelt test x [] h k = absurd (cc)
-more_spelt test x (y ∷ ys) h k = both_true (test x) (list_all test (y ∷ ys)) h k
+more_spelt test x (y ∷ ys) h k = and_true (test x) (list_all test (y ∷ ys)) h k
 
 one_spelt : {X : Type 0} (test : X → Bool) (x : X) → test x ≡ true → are_some test (x ∷ []) ≡ true
-one_spelt test x h = both_true (test x) true h refl
+one_spelt test x h = and_true (test x) true h refl
 
 mutual
   pub lit_small : {n : ℕ} {from rest : List Word} {d : DraftCond} → Lit false from d rest → AreSmall n from → (is_cond_spelt d ≡ true) × AreSmall n rest
@@ -188,7 +183,7 @@ mutual
   lit_small (compare {l = l} {m = m} {relation = relation} d e) k =
       let one = side_small d k in
       let other = side_small e (behind one.1) in
-      (spelt_Compare l m relation ∙ both_true (is_side_spelt false l) (is_side_spelt false m) one.0 other.0, other.1)
+      (spelt_Compare l m relation ∙ and_true (is_side_spelt false l) (is_side_spelt false m) one.0 other.0, other.1)
   lit_small (negated {d = d} l) k = let one = lit_small l (behind k) in (spelt_Not d ∙ one.0, one.1)
   lit_small (nested {ds = ds} l) k = let one = cond_small l (behind k) in (any_spelt ds one.0, behind one.1)
 
@@ -219,11 +214,11 @@ guard_spelt guard changes h = h
 
 prim_small : {n : ℕ} {from rest : List Word} {p : DraftPrim} → Prim from p rest → AreSmall n from → (is_prim_spelt p ≡ true) × AreSmall n rest
 prim_small never k = (refl, behind k)
-prim_small (unguarded {d = d} l e) k = let one = change_small l k in (both_true (is_change_spelt d) true one.0 refl, one.1)
+prim_small (unguarded {d = d} l e) k = let one = change_small l k in (and_true (is_change_spelt d) true one.0 refl, one.1)
 prim_small (guarded {d = d} {ds = ds} l ls) k =
     let one = change_small l k in
     let more = conj_small ls (behind one.1) in
-    (both_true (is_change_spelt d) (is_guard_spelt d (Some (all_of ds))) one.0 (guard_spelt (all_of ds) l (all_spelt ds more.0)), more.1)
+    (and_true (is_change_spelt d) (is_guard_spelt d (Some (all_of ds))) one.0 (guard_spelt (all_of ds) l (all_spelt ds more.0)), more.1)
 
 pub event_small : {n : ℕ} {from rest : List Word} {ps : List DraftPrim} → Event from ps rest → AreSmall n from → (are_some is_prim_spelt ps ≡ true) × AreSmall n rest
 event_small (last_prim {p = p} l e) k = let one = prim_small l k in (one_spelt is_prim_spelt p one.0, one.1)
@@ -259,5 +254,5 @@ cell_heading (condition l) = refl
 cell_heading (event l) = refl
 
 pub cells_heading : {heading : Heading} {from : List Word} {ds : List DraftCell} → Cells heading from ds → list_all (is_cell_of heading) ds ≡ true
-cells_heading {heading} (last_cell {d = d} l) = both_true (is_cell_of heading d) true (cell_heading l) refl
-cells_heading {heading} (cell_bar {d = d} {ds = ds} l ls) = both_true (is_cell_of heading d) (list_all (is_cell_of heading) ds) (cell_heading l) (cells_heading ls)
+cells_heading {heading} (last_cell {d = d} l) = and_true (is_cell_of heading d) true (cell_heading l) refl
+cells_heading {heading} (cell_bar {d = d} {ds = ds} l ls) = and_true (is_cell_of heading d) (list_all (is_cell_of heading) ds) (cell_heading l) (cells_heading ls)

@@ -14,6 +14,7 @@ use Rattle.scr_text.specs.declared.word.Sign.TheVariants as s
 use Rattle.scr_text.specs.declared.word.Keyword.TheVariants as keyword
 use Rattle.scr_text.specs.Tokens.{IsLexed}
 use Rattle.scr_spec.specs.declared.table.Heading.{Heading}
+use Rattle.scr_spec.proofs.Passing.{and_true}
 use Rattle.scr_spec.specs.NameSpace.{is_name}
 use Rattle.scr_spec.specs.Types.{is_narrow}
 use Rattle.scr_reader.specs.declared.draft.DraftKind.{DraftKind}
@@ -35,7 +36,7 @@ use Rattle.scr_reader.specs.Text.{Says, blank, says, Reads, no_line, line_more, 
 use Rattle.scr_reader.specs.Readable.{is_line_shallow, are_some, is_side_spelt, is_event_spelt, is_cell_spelt, is_kind_spelt, is_value_spelt, is_statement_spelt, is_line_readable, row_heading, is_cell_of, place_after, is_after, is_placed, are_counts_within, IsReadable, ReadsReadable}
 use Rattle.scr_reader.proofs.SoundWords.{is_word_sound, words_sound}
 use Rattle.scr_reader.proofs.Nestings.{IsOutside, past, event_deep, cells_deep, names_outside}
-use Rattle.scr_reader.proofs.ReadableParts.{both_true, AreSmall, first, behind, natural_narrow, names_small, braced_small, int_small, kind_small, value_small, event_small, cells_small, sides_small, cells_heading}
+use Rattle.scr_reader.proofs.ReadableParts.{AreSmall, first, behind, natural_narrow, names_small, braced_small, int_small, kind_small, value_small, event_small, cells_small, sides_small, cells_heading}
 
 -- ---- what stands behind the first word of a line
 
@@ -45,13 +46,13 @@ bounds_small (bounds i j) k = let one = int_small i k in (one.0, (int_small j (b
 type_small : {n : ℕ} {from : List Word} {statement : Statement} → TypeRest from statement → AreSmall n from → is_statement_spelt statement ≡ true
 type_small (range {name = name} {from = from} {lo = lo} {hi = hi} d) k =
     let ends = bounds_small d (behind (behind k)) in
-    both_true (is_name name && is_narrow lo) (is_narrow hi) (both_true (is_name name) (is_narrow lo) (first (w.Name name) (w.Sign s.Equal ∷ from) k) ends.0) ends.1
+    and_true (is_name name && is_narrow lo) (is_narrow hi) (and_true (is_name name) (is_narrow lo) (first (w.Name name) (w.Sign s.Equal ∷ from) k) ends.0) ends.1
 type_small (labels {name = name} {names = names} {from = from} d) k =
-    both_true (is_name name) (are_some is_name names) (first (w.Name name) (w.Sign s.Equal ∷ from) k) (braced_small d (behind (behind k))).0
+    and_true (is_name name) (are_some is_name names) (first (w.Name name) (w.Sign s.Equal ∷ from) k) (braced_small d (behind (behind k))).0
 
 const_small : {n : ℕ} {from : List Word} {name : List ℕ} {value : ℤ} → ConstRest from name value → AreSmall n from → is_statement_spelt (st.Constant name value) ≡ true
 const_small (constant {name = name} {from = from} {value = value} i) k =
-    both_true (is_name name) (is_narrow value) (first (w.Name name) (w.Sign s.Equal ∷ from) k) (int_small i (behind (behind k))).0
+    and_true (is_name name) (is_narrow value) (first (w.Name name) (w.Sign s.Equal ∷ from) k) (int_small i (behind (behind k))).0
 
 initial_small : {n : ℕ} {from : List Word} {init : DraftValue} → Initial from init → AreSmall n from → is_value_spelt init ≡ true
 initial_small (initial d) k = (value_small d (behind k)).0
@@ -65,20 +66,20 @@ variable_small : {n : ℕ} {from : List Word} {name : List ℕ} {kind : DraftKin
     → ((is_name name && is_kind_spelt kind) ≡ true) × (option_map_or is_value_spelt init true ≡ true)
 variable_small (variable {name = name} {from = from} {kind = kind} d) k =
     let parts = typed_small d (behind (behind k)) in
-    (both_true (is_name name) (is_kind_spelt kind) (first (w.Name name) (w.Sign s.Colon ∷ from) k) parts.0, parts.1)
+    (and_true (is_name name) (is_kind_spelt kind) (first (w.Name name) (w.Sign s.Colon ∷ from) k) parts.0, parts.1)
 
 class_small : {n : ℕ} {from : List Word} {name mode : List ℕ} {modes : List (List ℕ)} → ClassRest from name modes mode → AreSmall n from
     → is_statement_spelt (st.Class name modes mode) ≡ true
 class_small (class {name = name} {first = mode} {modes = modes} {from = from} d) k =
     let list = braced_small d (behind (behind k)) in
-    both_true (is_name name && are_some is_name modes) (is_name mode)
-    (both_true (is_name name) (are_some is_name modes) (first (w.Name name) (w.Sign s.Equal ∷ from) k) list.0) (first (w.Name mode) [] (behind list.1))
+    and_true (is_name name && are_some is_name modes) (is_name mode)
+    (and_true (is_name name) (are_some is_name modes) (first (w.Name name) (w.Sign s.Equal ∷ from) k) list.0) (first (w.Name mode) [] (behind list.1))
 
 head_small : {n : ℕ} {from : List Word} {name : List ℕ} {over : Option (List ℕ)} → HeadRest from name over → AreSmall n from
     → (is_name name && option_map_or is_name over true) ≡ true
-head_small (without_class {name = name}) k = both_true (is_name name) true (first (w.Name name) [] k) refl
+head_small (without_class {name = name}) k = and_true (is_name name) true (first (w.Name name) [] k) refl
 head_small (over_class {name = name} {over = over}) k =
-    both_true (is_name name) (is_name over) (first (w.Name name) (w.Reserved keyword.Over ∷ w.Name over ∷ []) k) (first (w.Name over) [] (behind (behind k)))
+    and_true (is_name name) (is_name over) (first (w.Name name) (w.Reserved keyword.Over ∷ w.Name over ∷ []) k) (first (w.Name over) [] (behind (behind k)))
 
 -- at least one is each of them
 some_all : {X : Type 0} (test : X → Bool) (xs : List X) → are_some test xs ≡ true → list_all test xs ≡ true
@@ -92,12 +93,12 @@ row_small : {heading : Heading} {from : List Word} {modes : List (List ℕ)} {ce
     → is_statement_spelt (st.Row modes cells) ≡ true
 row_small (without_modes {cells = cells} d) k =
     let right = cells_small d 15 (behind k) in
-    both_true (are_some is_cell_spelt cells) (nat_le (length cells) 16) right.0 (within_16 (length cells) right.1)
+    and_true (are_some is_cell_spelt cells) (nat_le (length cells) 16) right.0 (within_16 (length cells) right.1)
 row_small (with_modes {modes = modes} {cells = cells} d e) k =
     let named = names_small d k in
     let right = cells_small e 15 (behind named.1) in
-    both_true (list_all is_name modes && are_some is_cell_spelt cells) (nat_le (length cells) 16)
-    (both_true (list_all is_name modes) (are_some is_cell_spelt cells) (some_all is_name modes named.0) right.0) (within_16 (length cells) right.1)
+    and_true (list_all is_name modes && are_some is_cell_spelt cells) (nat_le (length cells) 16)
+    (and_true (list_all is_name modes) (are_some is_cell_spelt cells) (some_all is_name modes named.0) right.0) (within_16 (length cells) right.1)
 
 row_heading_cells : {heading : Heading} {from : List Word} {modes : List (List ℕ)} {cells : List DraftCell} → RowRest heading from modes cells → list_all (is_cell_of heading) cells ≡ true
 row_heading_cells (without_modes d) = cells_heading d
@@ -106,8 +107,8 @@ row_heading_cells (with_modes d e) = cells_heading e
 from_small : {n : ℕ} {from : List Word} {source target : List ℕ} {prims : List DraftPrim} → FromRest from source target prims → AreSmall n from
     → is_statement_spelt (st.Transition source target (event_of prims)) ≡ true
 from_small (transition {source = source} {target = target} {from = from} {prims = prims} d) k =
-    both_true (is_name source && is_name target) (is_event_spelt (event_of prims))
-    (both_true (is_name source) (is_name target) (first (w.Name source) (w.Reserved keyword.To ∷ w.Name target ∷ w.Sign s.Colon ∷ from) k)
+    and_true (is_name source && is_name target) (is_event_spelt (event_of prims))
+    (and_true (is_name source) (is_name target) (first (w.Name source) (w.Reserved keyword.To ∷ w.Name target ∷ w.Sign s.Colon ∷ from) k)
     (first (w.Name target) (w.Sign s.Colon ∷ from) (behind (behind k))))
     (event_small d (behind (behind (behind (behind k))))).0
 
@@ -122,22 +123,22 @@ form_small (specification {name = name}) k = first (w.Name name) [] (behind k)
 form_small (type d) k = type_small d (behind k)
 form_small (const d) k = const_small d (behind k)
 form_small (monitored {name = name} {kind = kind} {init = init} d) k =
-    let parts = variable_small d (behind k) in both_true (is_name name && is_kind_spelt kind) (is_value_spelt init) parts.0 parts.1
+    let parts = variable_small d (behind k) in and_true (is_name name && is_kind_spelt kind) (is_value_spelt init) parts.0 parts.1
 form_small (mode_class d) k = class_small d (behind k)
 form_small (term {name = name} {kind = kind} {init = init} d) k =
-    let parts = variable_small d (behind k) in both_true (is_name name && is_kind_spelt kind) (option_map_or is_value_spelt init true) parts.0 parts.1
+    let parts = variable_small d (behind k) in and_true (is_name name && is_kind_spelt kind) (option_map_or is_value_spelt init true) parts.0 parts.1
 form_small (controlled {name = name} {kind = kind} {init = init} d) k =
-    let parts = variable_small d (behind k) in both_true (is_name name && is_kind_spelt kind) (option_map_or is_value_spelt init true) parts.0 parts.1
+    let parts = variable_small d (behind k) in and_true (is_name name && is_kind_spelt kind) (option_map_or is_value_spelt init true) parts.0 parts.1
 form_small (nat {name = name} {n = n} i) k =
     let right = natural_narrow n (first (w.Number n) [] (behind (behind (behind k)))) i in
-    both_true (is_name name && int_le (pos 0) n) (is_narrow n)
-    (both_true (is_name name) (int_le (pos 0) n) (first (w.Name name) (w.Reserved keyword.Step ∷ w.Number n ∷ []) (behind k)) (natural_test n i)) right
+    and_true (is_name name && int_le (pos 0) n) (is_narrow n)
+    (and_true (is_name name) (int_le (pos 0) n) (first (w.Name name) (w.Reserved keyword.Step ∷ w.Number n ∷ []) (behind k)) (natural_test n i)) right
 form_small (condition_head e d) k = head_small d (behind k)
 form_small (event_head e d) k = head_small d (behind k)
-form_small (modes_head {name = name} e) k = both_true (is_name name) true (first (w.Name name) [] (behind k)) refl
+form_small (modes_head {name = name} e) k = and_true (is_name name) true (first (w.Name name) [] (behind k)) refl
 form_small (row e d) k = row_small d (behind k)
 form_small (values {sides = sides} d) k =
-    let right = sides_small d 15 (behind k) in both_true (are_some (is_side_spelt true) sides) (nat_le (length sides) 16) right.0 (within_16 (length sides) right.1)
+    let right = sides_small d 15 (behind k) in and_true (are_some (is_side_spelt true) sides) (nat_le (length sides) 16) right.0 (within_16 (length sides) right.1)
 form_small (from_to d) k = from_small d (behind k)
 form_small (end e) k = refl
 form_small (finish e) k = refl
@@ -185,7 +186,7 @@ tokens_small {line} {tokens} l h = record {
 
 line_readable : {position next : Position} {line : List ℕ} {tokens : List Token} {statement : Statement} → IsLexed line tokens → Says position (words tokens) statement next
     → (is_statement_within statement && is_statement_spelt statement) ≡ true
-line_readable {statement = statement} l s = both_true (is_statement_within statement) (is_statement_spelt statement) s.within (form_small s.form (tokens_small l s.line_within))
+line_readable {statement = statement} l s = and_true (is_statement_within statement) (is_statement_spelt statement) s.within (form_small s.form (tokens_small l s.line_within))
 
 -- ---- the depth of a line
 
@@ -233,13 +234,13 @@ statements_readable : {position last : Position} {n : ℕ} {ls : List (List ℕ)
 statements_readable no_line = refl
 statements_readable (line_more (blank l) more) = statements_readable more
 statements_readable (line_more {draft = draft} (says {statement = statement} l s) more) =
-    both_true (is_statement_within statement && is_statement_spelt statement) (list_all is_line_readable draft) (line_readable l s) (statements_readable more)
+    and_true (is_statement_within statement && is_statement_spelt statement) (list_all is_line_readable draft) (line_readable l s) (statements_readable more)
 
 statements_shallow : {position last : Position} {n : ℕ} {ls : List (List ℕ)} {draft : List Numbered} → Reads position n ls draft last → list_all is_line_shallow draft ≡ true
 statements_shallow no_line = refl
 statements_shallow (line_more (blank l) more) = statements_shallow more
 statements_shallow (line_more {draft = draft} (says {tokens = tokens} {statement = statement} l s) more) =
-    both_true (is_statement_shallow statement) (list_all is_line_shallow draft) (form_deep s.form (line_outside (words tokens) s.line_within)) (statements_shallow more)
+    and_true (is_statement_shallow statement) (list_all is_line_shallow draft) (form_deep s.form (line_outside (words tokens) s.line_within)) (statements_shallow more)
 
 lines_placed : {position last : Position} {n : ℕ} {ls : List (List ℕ)} {draft : List Numbered} → Reads position n ls draft last → last.place ≡ p.After → is_placed position.place draft ≡ true
 lines_placed no_line e = ap is_after e
@@ -251,7 +252,7 @@ counts_kept no_line = refl
 counts_kept (line_more (blank l) more) = counts_kept more
 counts_kept {position} (line_more {next = next} {draft = draft} (says {statement = statement} l s) more) =
     let next_counts = counted position.counts statement in
-    both_true (is_count_within next_counts) (are_counts_within next_counts draft)
+    and_true (is_count_within next_counts) (are_counts_within next_counts draft)
     (subst (λ counts. is_count_within counts ≡ true) s.counts s.count_within) (subst (λ counts. are_counts_within counts draft ≡ true) s.counts (counts_kept more))
 
 -- ---- a text

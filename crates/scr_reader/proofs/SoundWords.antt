@@ -12,6 +12,7 @@ use Rattle.scr_text.specs.declared.word.Token.{Token}
 use Rattle.scr_text.specs.Piece.{is_word_byte, is_nothing, is_name_rest, is_piece}
 use Rattle.scr_text.specs.Tokens.{Tokens, no_more, blank, piece, word_is_small, is_small, IsLexed}
 use Rattle.scr_text.specs.Words.{keyword_of, named, primed, sign_word, word_of}
+use Rattle.scr_spec.proofs.Passing.{and_true}
 use Rattle.scr_spec.specs.NameSpace.{is_spelt, is_name}
 
 -- a name of the language, or a number within its limit
@@ -21,10 +22,6 @@ is_word_sound (w.Primed name) = is_name name
 is_word_sound (w.Number n) = int_le n (pos 1000000)
 is_word_sound (w.Reserved keyword) = true
 is_word_sound (w.Sign sign) = true
-
-both_true : (a b : Bool) → a ≡ true → b ≡ true → (a && b) ≡ true
-both_true true b h k = k
-both_true false b h k = absurd (cc)
 
 -- ---- the last byte of a piece, and what stands before it
 
@@ -65,7 +62,7 @@ Goes d bytes = ((is_word_byte d && is_name_rest bytes) ≡ true) ⊎ ((d == 39 &
 plain_step : (d : ℕ) (bytes : List ℕ) → (is_name_rest bytes ≡ true → list_all is_word_byte bytes ≡ true) → Goes d bytes → (last_of d bytes == 39) ≡ false
     → list_all is_word_byte (d ∷ bytes) ≡ true
 plain_step d bytes more (inl k) e =
-    let parts = and_parts (is_word_byte d) (is_name_rest bytes) k in both_true (is_word_byte d) (list_all is_word_byte bytes) parts.0 (more parts.1)
+    let parts = and_parts (is_word_byte d) (is_name_rest bytes) k in and_true (is_word_byte d) (list_all is_word_byte bytes) parts.0 (more parts.1)
 plain_step d [] more (inr k) e = let prime = (and_parts (d == 39) true k).0 in absurd (cc)
 plain_step d (x ∷ bytes) more (inr k) e = let none = (and_parts (d == 39) false k).1 in absurd (cc)
 
@@ -77,7 +74,7 @@ plain_name b (d ∷ bytes) h e = plain_step d bytes (λ g. plain_name d bytes g 
 primed_step : (d x : ℕ) (bytes : List ℕ) → (is_name_rest (x ∷ bytes) ≡ true → list_all is_word_byte (front_of x bytes) ≡ true) → Goes d (x ∷ bytes)
     → list_all is_word_byte (d ∷ front_of x bytes) ≡ true
 primed_step d x bytes more (inl k) =
-    let parts = and_parts (is_word_byte d) (is_name_rest (x ∷ bytes)) k in both_true (is_word_byte d) (list_all is_word_byte (front_of x bytes)) parts.0 (more parts.1)
+    let parts = and_parts (is_word_byte d) (is_name_rest (x ∷ bytes)) k in and_true (is_word_byte d) (list_all is_word_byte (front_of x bytes)) parts.0 (more parts.1)
 primed_step d x bytes more (inr k) = let none = (and_parts (d == 39) false k).1 in absurd (cc)
 
 -- and so it has before a prime
@@ -92,13 +89,13 @@ no_prime b h e = let no : is_ascii_alphabetic 39 ≡ true = subst (λ n. is_asci
 
 front_spelt : (b : ℕ) (bytes : List ℕ) → is_ascii_alphabetic b ≡ true → is_name_rest bytes ≡ true → (last_of b bytes == 39) ≡ true → is_spelt (front_of b bytes) ≡ true
 front_spelt b [] letter h e = absurd (no_prime b letter e)
-front_spelt b (d ∷ bytes) letter h e = both_true (is_ascii_alphabetic b) (list_all is_word_byte (front_of d bytes)) letter (primed_name d bytes h)
+front_spelt b (d ∷ bytes) letter h e = and_true (is_ascii_alphabetic b) (list_all is_word_byte (front_of d bytes)) letter (primed_name d bytes h)
 
 -- ---- words
 
 is_named : (bytes : List ℕ) → is_spelt bytes ≡ true → nat_le (length bytes) 24 ≡ true → keyword_of bytes ≡ None → is_name bytes ≡ true
 is_named bytes h few e =
-    both_true (is_spelt bytes && nat_le (length bytes) 24) (is_none (keyword_of bytes)) (both_true (is_spelt bytes) (nat_le (length bytes) 24) h few) (ap is_none e)
+    and_true (is_spelt bytes && nat_le (length bytes) 24) (is_none (keyword_of bytes)) (and_true (is_spelt bytes) (nat_le (length bytes) 24) h few) (ap is_none e)
 
 same_word : {a b : Word} → Some a ≡ Some b → a ≡ b
 same_word {a} e = ap (λ o. unwrap_or o a) e
@@ -134,7 +131,7 @@ ends_sound : (b : ℕ) (bytes front : List ℕ) (word : Word) (prime : Bool) →
 ends_sound b bytes front word true letter h same e g small =
     primed_sound front (keyword_of front) word refl (subst (λ name. is_spelt name ≡ true) (sym same) (front_spelt b bytes letter h e)) g small
 ends_sound b bytes front word false letter h same e g small =
-    plain_sound (b ∷ bytes) (keyword_of (b ∷ bytes)) word refl (both_true (is_ascii_alphabetic b) (list_all is_word_byte bytes) letter (plain_name b bytes h e)) g small
+    plain_sound (b ∷ bytes) (keyword_of (b ∷ bytes)) word refl (and_true (is_ascii_alphabetic b) (list_all is_word_byte bytes) letter (plain_name b bytes h e)) g small
 
 first_sound : (b : ℕ) (bytes front : List ℕ) (end n : ℕ) (digit letter other : Bool) (o : Option Sign) (word : Word) → is_ascii_alphabetic b ≡ letter
     → (if letter then is_name_rest bytes else other) ≡ true → front ≡ front_of b bytes → end ≡ last_of b bytes
@@ -158,7 +155,7 @@ tokens_sound no_more h = refl
 tokens_sound (blank e d) h = tokens_sound d h
 tokens_sound (piece {n = n} {bytes = bytes} {word = word} {tokens = tokens} l e d) h =
     let parts = and_parts (word_is_small word) (list_all is_small tokens) h in
-    both_true (is_word_sound word) (list_all (λ t. is_word_sound t.word) tokens) (piece_sound (take n bytes) word l.piece e parts.0) (tokens_sound d parts.1)
+    and_true (is_word_sound word) (list_all (λ t. is_word_sound t.word) tokens) (piece_sound (take n bytes) word l.piece e parts.0) (tokens_sound d parts.1)
 
 pub words_sound : {line : List ℕ} {tokens : List Token} → IsLexed line tokens → list_all (λ t. is_word_sound t.word) tokens ≡ true
 words_sound l = tokens_sound l.cut l.small

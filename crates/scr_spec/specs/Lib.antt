@@ -19,5 +19,6 @@ pub mod Initial
 pub mod Tables
 pub mod RowModes
 pub mod Values
+pub mod Relations
 pub mod Sound
 pub mod Laws

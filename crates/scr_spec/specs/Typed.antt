@@ -1,4 +1,4 @@
--- Which sort a side has, and which conditions and events are well typed.
+-- Which sort a side has, and which conditions are well typed.
 use Rattle.std.specs.Prelude.{ℤ, pos, Bool, true, false, ◌&&◌, ◌||◌, if◌then◌else◌, List, [], ◌∷◌, Option, Some, None}
 use Rattle.std.specs.Option.{option_map_or}
 use Rattle.std.specs.Ordering.{int_eq}
@@ -13,10 +13,6 @@ use Rattle.scr_spec.specs.declared.cond.Item.{Item}
 use Rattle.scr_spec.specs.declared.cond.Expr.{Expr}
 use Rattle.scr_spec.specs.declared.cond.Cond.{Cond, fold-Cond}
 use Rattle.scr_spec.specs.declared.cond.Cond.TheOpen.{Cond-F, Truth, Holds, Compare, Not, And, Or}
-use Rattle.scr_spec.specs.declared.table.Change.{Change}
-use Rattle.scr_spec.specs.declared.table.Change.TheVariants.{Becomes, Ceases, Changes, Never}
-use Rattle.scr_spec.specs.declared.table.Primitive.{Primitive}
-use Rattle.scr_spec.specs.declared.table.Event.{Event}
 use Rattle.scr_text.specs.declared.word.Relation.{Relation}
 use Rattle.scr_text.specs.declared.word.Relation.TheVariants.{Equal, Differ, Less, AtMost, Greater, AtLeast}
 
@@ -82,18 +78,3 @@ typed_step spec (Or ts) = list_all (λ t. t) ts
 -- each comparison of the condition is well typed, and each variable that holds is a Boolean
 abbrev pub is_cond_typed : Data → Cond → Bool
 is_cond_typed spec c = fold-Cond Bool (typed_step spec) c
-
--- ---- events
-
--- each condition is well typed, and any variable may change
-abbrev pub is_change_typed : Data → Change → Bool
-is_change_typed spec (Becomes c) = is_cond_typed spec c
-is_change_typed spec (Ceases c) = is_cond_typed spec c
-is_change_typed spec (Changes v) = true
-is_change_typed spec Never = true
-
-abbrev pub is_prim_typed : Data → Primitive → Bool
-is_prim_typed spec p = is_change_typed spec p.change && option_map_or (is_cond_typed spec) p.guard true
-
-abbrev pub is_event_typed : Data → Event → Bool
-is_event_typed spec e = list_all (is_prim_typed spec) e.prims

@@ -1,5 +1,5 @@
 -- The rules on declared types, on the kinds of variables and on their bounds.
-use Rattle.std.specs.Prelude.{ℕ, ℤ, pos, ◌-ℤ◌, unsigned_abs, int_le, Bool, true, false, ◌&&◌, nat_lt, nat_le, List, [], length, slice_get}
+use Rattle.std.specs.Prelude.{ℕ, ℤ, pos, ◌-ℤ◌, unsigned_abs, int_le, Bool, true, ◌&&◌, nat_lt, nat_le, List, [], length, is_some}
 use Rattle.std.specs.Option.{option_map_or}
 use Rattle.scr_spec.specs.declared.spec.Domain.{Domain}
 use Rattle.scr_spec.specs.declared.spec.Shape.{Shape}
@@ -9,6 +9,7 @@ use Rattle.scr_spec.specs.declared.spec.Kind.{Kind}
 use Rattle.scr_spec.specs.declared.spec.Kind.TheVariants.{Boolean, Named, Modes}
 use Rattle.scr_spec.specs.declared.spec.Variable.{Variable}
 use Rattle.scr_spec.specs.Roles.{is_monitored_role}
+use Rattle.scr_spec.specs.Sorts.{kind_range}
 
 -- an integer of a specification is from -1,000,000 to 1,000,000
 abbrev pub is_narrow : ℤ → Bool
@@ -48,16 +49,9 @@ kind_modes Boolean = []
 kind_modes (Named k) = []
 kind_modes (Modes names) = names
 
--- the type is one of integers
-abbrev pub is_range : Shape → Bool
-is_range (Range d) = true
-is_range (Labels names) = false
-
 -- the values are integers
 abbrev pub is_integer_kind : List TypeDef → Kind → Bool
-is_integer_kind types Boolean = false
-is_integer_kind types (Named k) = option_map_or (λ t. is_range t.shape) (slice_get types k) false
-is_integer_kind types (Modes names) = false
+is_integer_kind types kind = is_some (kind_range types kind)
 
 -- a bound is from 1 to 1,000,000, at a monitored variable whose values are integers
 abbrev pub is_bound_sound : List TypeDef → Variable → Bool

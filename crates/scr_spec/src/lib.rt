@@ -8,6 +8,7 @@ mod sort;
 mod spec;
 mod state;
 mod table;
+mod variables;
 
 pub use cond::{Cond, Expr, Item, Operand, Owner};
 pub use law::bounded_depth;

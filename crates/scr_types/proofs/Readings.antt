@@ -59,8 +59,8 @@ apart text spec (unresolved line which name) s (draft, reads, refused) =
 some : (text : List ℕ) → ((spec : Data) → Spells text spec → ⊥) → ((r : Refusal) → IsRefused text r → ⊥) → ⊥
 some text unspelled unrefused = one_outcome.some text
     (λ draft reads. some_lines nothing draft
-        (λ last resolves. unspelled (seen last) (record { draft = draft; reads = reads; resolves = record { last = last; resolves = resolves; parts = refl } }))
-        (λ n which name refused. unrefused (unresolved n which name) (draft, reads, refused)))
+    (λ last resolves. unspelled (seen last) (record { draft = draft; reads = reads; resolves = record { last = last; resolves = resolves; parts = refl } }))
+    (λ n which name refused. unrefused (unresolved n which name) (draft, reads, refused)))
     (λ line which refused. unrefused (unread line which) refused)
 
 pub one_reading : OneReading

@@ -5,6 +5,7 @@ use Rattle.std.specs.Option.{option_map_or}
 use Rattle.std.specs.List.{list_all}
 use Rattle.std.proofs.lemmas.Bool.{and_parts}
 use Rattle.std.proofs.lemmas.List.Folds.{list_all-append}
+use Rattle.scr_spec.proofs.Passing.{and_true}
 use Rattle.scr_spec.specs.NameSpace.{is_name}
 use Rattle.scr_spec.specs.Types.{is_narrow}
 use Rattle.scr_reader.specs.declared.draft.DraftItem.{DraftItem}
@@ -19,16 +20,13 @@ use Rattle.scr_names.specs.Declarations.{with_bound_at}
 use Rattle.scr_names.specs.Sides.{is_narrow_constant, is_narrow_item}
 use Rattle.scr_types.specs.Lines.{after, is_small_side}
 
-both : (a b : Bool) → a ≡ true → b ≡ true → (a && b) ≡ true
-both a b h k = ap (λ t. t && b) h ∙ k
-
 -- ---- values
 
 narrow_items : (items : List DraftItem) → list_all (is_item_spelt true) items ≡ true → list_all is_narrow_item items ≡ true
 narrow_items [] h = refl
 narrow_items (item ∷ items) h =
     let parts = and_parts (is_item_spelt true item) (list_all (is_item_spelt true) items) h in
-    both (is_narrow item.factor) (list_all is_narrow_item items) (and_parts (is_narrow item.factor) (is_operand_spelt true item.operand) parts.0).0 (narrow_items items parts.1)
+    and_true (is_narrow item.factor) (list_all is_narrow_item items) (and_parts (is_narrow item.factor) (is_operand_spelt true item.operand) parts.0).0 (narrow_items items parts.1)
 
 some_narrow : (items : List DraftItem) → are_some (is_item_spelt true) items ≡ true → list_all is_narrow_item items ≡ true
 some_narrow [] h = refl
@@ -36,14 +34,14 @@ some_narrow (item ∷ items) h = narrow_items (item ∷ items) h
 
 small_side : (side : DraftSide) → is_side_within side ≡ true → is_side_spelt true side ≡ true → is_small_side side ≡ true
 small_side side h k =
-    both (nat_le (length side.items) 8) (list_all is_narrow_item side.items) (and_parts (nat_le (length side.items) 8) (list_all is_item_within side.items) h).0 (some_narrow side.items k)
+    and_true (nat_le (length side.items) 8) (list_all is_narrow_item side.items) (and_parts (nat_le (length side.items) 8) (list_all is_item_within side.items) h).0 (some_narrow side.items k)
 
 small_all : (sides : List DraftSide) → list_all is_side_within sides ≡ true → list_all (is_side_spelt true) sides ≡ true → list_all is_small_side sides ≡ true
 small_all [] h k = refl
 small_all (side ∷ sides) h k =
     let within = and_parts (is_side_within side) (list_all is_side_within sides) h in
     let spelt = and_parts (is_side_spelt true side) (list_all (is_side_spelt true) sides) k in
-    both (is_small_side side) (list_all is_small_side sides) (small_side side within.0 spelt.0) (small_all sides within.1 spelt.1)
+    and_true (is_small_side side) (list_all is_small_side sides) (small_side side within.0 spelt.0) (small_all sides within.1 spelt.1)
 
 small_some : (sides : List DraftSide) → list_all is_side_within sides ≡ true → are_some (is_side_spelt true) sides ≡ true → list_all is_small_side sides ≡ true
 small_some [] h k = refl

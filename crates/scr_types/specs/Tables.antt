@@ -13,7 +13,8 @@ use Rattle.scr_spec.specs.declared.table.Heading.TheVariants as h
 use Rattle.scr_spec.specs.declared.table.Row.{Row}
 use Rattle.scr_spec.specs.declared.table.Table.{Table}
 use Rattle.scr_spec.specs.Roles.{is_monitored_role, is_class_role, is_computed_role}
-use Rattle.scr_spec.specs.Types.{kind_modes}
+use Rattle.scr_spec.specs.Over.{modes_of}
+use Rattle.scr_spec.specs.Tables.{has_table}
 use Rattle.scr_reader.specs.declared.draft.DraftCell.{DraftCell}
 use Rattle.scr_reader.specs.declared.draft.DraftSide.{DraftSide}
 use Rattle.scr_names.specs.declared.known.Known.{Known}
@@ -21,14 +22,10 @@ use Rattle.scr_names.specs.declared.meaning.Meaning.{Meaning}
 use Rattle.scr_names.specs.declared.meaning.Meaning.TheVariants as m
 use Rattle.scr_names.specs.Names.{Name}
 use Rattle.scr_names.specs.First.{unless}
-use Rattle.scr_names.specs.Meanings.{meant, variable_named}
+use Rattle.scr_names.specs.Meanings.{seen, meant, variable_named}
 use Rattle.scr_names.specs.Declarations.{variable_of}
 
 -- ---- heads
-
--- a table of this variable is there
-abbrev pub has_table : List Table → ℕ → Bool
-has_table tables v = list_any (λ t. nat_eq t.variable v) tables
 
 -- the head names no variable that has a table
 abbrev pub is_head_new : Known → Name → Bool
@@ -134,12 +131,9 @@ abbrev pub first_missing : List Row → ℕ → List Name → Option Name
 first_missing rows place [] = None
 first_missing rows place (n ∷ ns) = if is_used rows (pos place) then first_missing rows (place + 1) ns else Some n
 
-abbrev pub class_modes : Known → ℕ → List Name
-class_modes known v = option_map_or (λ x. kind_modes x.kind) (slice_get known.variables v) []
-
 -- a condition table with a class has a row for each mode
 abbrev pub missing_in : Known → Heading → Option ℕ → List Row → Option Name
-missing_in known h.Condition class rows = option_and_then (λ v. first_missing rows 0 (class_modes known v)) class
+missing_in known h.Condition class rows = option_and_then (λ v. first_missing rows 0 (modes_of (seen known) v)) class
 missing_in known h.Event class rows = None
 missing_in known h.Modes class rows = None
 

@@ -1,6 +1,7 @@
 //! The rules of the head of a table.
 ghost use Rattle.std.specs.Prelude.{◌≡◌};
 ghost use Rattle.std.specs.Option.{option_copied};
+ghost use Rattle.scr_spec.specs.Tables.{has_table};
 ghost use Rattle.scr_types.specs.Tables as spec;
 
 use scr_names::{Known, unless};
@@ -9,14 +10,9 @@ use scr_text::Name;
 
 /// Whether a table of the variable with this number is there.
 pub(crate) fn has_table(tables: &[Table], v: usize) -> bool
-    ensures { result ≡ spec.has_table tables.now v }
+    ensures { result ≡ has_table tables.now v }
 {
-    for table in tables {
-        if table.variable == v {
-            return true;
-        }
-    }
-    false
+    tables.iter().any(|table| table.variable == v)
 }
 
 /// Whether the name stands for no variable that has a table.

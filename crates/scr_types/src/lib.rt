@@ -8,10 +8,8 @@ mod line;
 mod lines;
 mod mode;
 mod reading;
-mod resolving;
 mod shape;
 
 pub use fault::{TypeFault, TypeKind};
-pub use lines::one_resolution;
+pub use lines::{one_resolution, resolve};
 pub use reading::one_reading;
-pub use resolving::resolve;

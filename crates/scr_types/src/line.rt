@@ -114,12 +114,7 @@ fn unknown_in<'a>(known: &Known, statement: &'a Statement) -> Option<&'a Name>
 fn are_typed(known: &Known, cells: &[DraftCell]) -> bool
     ensures { result ≡ list_all (event.is_typed_cell known.now) cells.now }
 {
-    for cell in cells {
-        if !known.is_typed_cell(cell) {
-            return false;
-        }
-    }
-    true
+    cells.iter().all(|cell| known.is_typed_cell(cell))
 }
 
 fn ill_in<'a>(known: &'a Known, statement: &'a Statement) -> Option<&'a Name>
@@ -149,12 +144,7 @@ fn outside_in<'a>(known: &'a Known, statement: &'a Statement) -> Option<&'a Name
 fn are_cells_narrow(known: &Known, cells: &[DraftCell]) -> bool
     ensures { result ≡ list_all (event.is_narrow_cell known.now) cells.now }
 {
-    for cell in cells {
-        if !known.is_narrow_cell(cell) {
-            return false;
-        }
-    }
-    true
+    cells.iter().all(|cell| known.is_narrow_cell(cell))
 }
 
 fn wide_in<'a>(known: &'a Known, statement: &'a Statement) -> Option<&'a Name>

@@ -1,14 +1,17 @@
 //! Resolves a draft line by line.
 ghost use Rattle.std.specs.Prelude.{◌≡◌, true, MatchResult};
 ghost use Rattle.std.specs.List.{list_all};
-ghost use Rattle.scr_reader.specs.Readable.{is_line_readable};
-ghost use Rattle.scr_names.specs.Meanings.{nothing};
+ghost use Rattle.scr_reader.specs.Readable.{IsReadable, is_line_readable};
+ghost use Rattle.scr_spec.specs.Shown.{data_of};
+ghost use Rattle.scr_spec.specs.Sound.{IsSound};
+ghost use Rattle.scr_names.specs.Meanings.{nothing, seen};
 ghost use Rattle.scr_types.specs.Draft as spec;
 
 use crate::fault::TypeFault;
 use crate::line::take;
 use scr_names::Known;
-use scr_reader::Numbered;
+use scr_reader::{Draft, Numbered};
+use scr_spec::Spec;
 use std::alloc::Global;
 
 /// What the lines say, or the first of them that is refused.
@@ -24,6 +27,45 @@ fn known_of(alloc: Global, lines: &[Numbered]) -> Result<Known, TypeFault>
         }
     }
     Ok(known)
+}
+
+/// The specification that the lines say.
+fn spec_of(known: Known) -> Spec
+    requires { IsSound (seen known) }
+    ensures { data_of result ≡ seen known }
+{
+    let Known {
+        title,
+        names: _,
+        types,
+        constants,
+        variables,
+        tables,
+        current: _,
+    } = known;
+    Spec {
+        name: title,
+        types,
+        constants,
+        variables,
+        tables,
+    }
+}
+
+/// The specification that a draft spells, or its first line that breaks a rule. Lines count from
+/// 1. On one line the rules are tried in the order of `TypeKind`, and the name is the first on the
+/// line that breaks the rule, or that of the table's variable.
+#[tactic(auto, using(crate::proofs::Sound::sound))]
+pub fn resolve(alloc: Global, draft: &Draft) -> Result<Spec, TypeFault>
+    requires { IsReadable draft.now.statements }
+    ensures { MatchResult result
+        (λ made. spec.DraftResolves draft.now.statements (data_of made))
+        (spec.DraftRefuses draft.now.statements) }
+{
+    match known_of(alloc, draft.statements.as_slice()) {
+        Ok(known) => Ok(spec_of(known)),
+        Err(fault) => Err(fault),
+    }
 }
 
 /// A draft spells one specification, or is refused in one way.

@@ -3,6 +3,8 @@ ghost use Rattle.std.specs.Prelude.{◌≡◌, false, [], pos};
 ghost use Rattle.std.specs.Option.{option_copied};
 ghost use Rattle.std.specs.Ordering.{int_eq};
 ghost use Rattle.std.specs.List.{list_any};
+ghost use Rattle.scr_spec.specs.Over.{modes_of};
+ghost use Rattle.scr_names.specs.Meanings.{seen};
 ghost use Rattle.scr_types.specs.Tables as spec;
 
 use scr_names::{Known, Meaning, is_among, unless};
@@ -39,12 +41,7 @@ pub(crate) fn mode_named(known: &Known, v: usize, name: &Name) -> Option<u32>
 pub(crate) fn has_code(codes: &[i64], code: i64) -> bool
     ensures { result ≡ list_any (int_eq code) codes.now }
 {
-    for other in codes {
-        if code == *other {
-            return true;
-        }
-    }
-    false
+    codes.iter().any(|other| code == *other)
 }
 
 /// Whether the row has the mode.
@@ -57,12 +54,7 @@ pub(crate) fn has_mode(mode: i64, row: &Row) -> bool
 fn is_used(rows: &[Row], mode: i64) -> bool
     ensures { result ≡ spec.is_used rows.now mode }
 {
-    for row in rows {
-        if has_mode(mode, row) {
-            return true;
-        }
-    }
-    false
+    rows.iter().any(|row| has_mode(mode, row))
 }
 
 fn is_used_now(known: &Known, mode: i64) -> bool
@@ -143,7 +135,7 @@ fn first_missing<'a>(rows: &[Row], names: &'a [Name]) -> Option<&'a Name>
 }
 
 fn missing_of<'a>(known: &'a Known, rows: &[Row], v: usize) -> Option<&'a Name>
-    ensures { option_copied result ≡ spec.first_missing rows.now 0 (spec.class_modes known.now v) }
+    ensures { option_copied result ≡ spec.first_missing rows.now 0 (modes_of (seen known.now) v) }
 {
     match known.variables.get(v) {
         Some(variable) => match &variable.kind {

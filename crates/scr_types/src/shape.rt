@@ -73,12 +73,9 @@ pub(crate) fn are_values_placed(known: &Known, sides: &[DraftSide]) -> bool
 fn are_typed(known: &Known, heading: Heading, v: usize, sides: &[DraftSide]) -> bool
     ensures { result ≡ list_all (side.is_typed_value known.now heading v) sides.now }
 {
-    for side in sides {
-        if !known.is_typed_value(heading, v, side) {
-            return false;
-        }
-    }
-    true
+    sides
+        .iter()
+        .all(|side| known.is_typed_value(heading, v, side))
 }
 
 /// Whether each value has the sort of the table's variable.
@@ -120,12 +117,7 @@ pub(crate) fn are_values_within(known: &Known, sides: &[DraftSide]) -> bool
 pub(crate) fn are_narrow(known: &Known, sides: &[DraftSide]) -> bool
     ensures { result ≡ list_all (side.is_narrow_side known.now) sides.now }
 {
-    for side in sides {
-        if !known.is_narrow_side(side) {
-            return false;
-        }
-    }
-    true
+    sides.iter().all(|side| known.is_narrow_side(side))
 }
 
 /// The first dependent variable without a table.

@@ -64,7 +64,6 @@ overflow_add-result c = omega (arith, small c)
 pub invariant_of-self-2 : goal.invariant_of-self-2
 invariant_of-self-2 c = record {
   held = (made c).held_still;
-  domains = c.self.invariant.domains;
   joined = c.in_ok-place.ensures.joined;
   cap = c.self.invariant.cap;
 }

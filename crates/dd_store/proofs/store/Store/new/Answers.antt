@@ -14,7 +14,6 @@ is_bare c = bare_is c.args.domains.items c.args.limit (nodes_of c.new-3.result.k
 pub invariant_of-result : goal.invariant_of-result
 invariant_of-result c = record {
   held = subst IsHeld (sym (is_bare c)) (IsHeld-bare c.args.domains.items c.args.limit c.requires.codes c.requires.limit);
-  domains = c.requires.codes;
   joined = subst (AllByRecursion IsJoinedKey) (sym c.new-3.ensures.empty) tt;
   cap = ap (λ m. m.cap) c.in_ok-memo.ensures ∙ c.in-Some.ensures;
 }

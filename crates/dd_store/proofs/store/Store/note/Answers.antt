@@ -18,7 +18,6 @@ still_held c =
 pub invariant_of-self-2 : goal.invariant_of-self-2
 invariant_of-self-2 c = record {
   held = still_held c;
-  domains = c.self.invariant.domains;
   joined = c.self.invariant.joined;
   cap = ap (λ m. m.cap) c.in_ok-put.ensures.entries ∙ c.self.invariant.cap;
 }

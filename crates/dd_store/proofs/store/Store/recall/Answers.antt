@@ -15,7 +15,6 @@ still_held c =
 pub invariant_of-self : goal.invariant_of-self
 invariant_of-self c = record {
   held = still_held c;
-  domains = c.self.invariant.domains;
   joined = c.self.invariant.joined;
   cap = ap (λ m. m.cap) c.get.follows.holds-at-none ∙ c.self.invariant.cap;
 }

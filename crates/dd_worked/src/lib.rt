@@ -1,0 +1,14 @@
+//! Worked examples of decision diagrams. They return what the tests, and a program for timings, look at.
+#![tactic(auto)]
+
+mod formulas;
+mod large;
+mod small;
+mod stores;
+#[cfg(test)]
+mod tests;
+
+pub use large::{Repeated, atom_again, conjunction_again, disjunction_of_booleans, sum_below};
+pub use small::{
+    Least, least_of_false, least_sum, never_positive, noted_negation, pair_and_negation,
+};
