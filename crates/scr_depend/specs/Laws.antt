@@ -1,18 +1,18 @@
 -- Laws of the graphs and the orders of specifications.
-use Rattle.std.specs.Prelude.{◌≡◌, ◌↔◌, ◌<◌, ℕ, false, List, length, take, slice_get, slice_index, IsTrue}
-use Rattle.std.specs.Option.{option_map_or}
+use Rattle.std.specs.Prelude.{◌≡◌, ◌↔◌, ◌<◌, ℕ, List, length, take, slice_index, IsTrue}
 use Rattle.scr_spec.specs.Data.{Data}
 use Rattle.scr_spec.specs.Sound.{IsSound}
 use Rattle.scr_depend.specs.declared.graph.Graph.{Graph}
 use Rattle.scr_depend.specs.Graphs.{is_among, reads, is_dependent}
 use Rattle.scr_depend.specs.Walks.{IsCircular}
 use Rattle.scr_depend.specs.Orders.{IsOrder, HasOrder}
-use Rattle.scr_depend.specs.Dependencies.{depends, reads_in, graph_of}
+use Rattle.scr_spec.specs.Relations as variables
+use Rattle.scr_depend.specs.Dependencies.{reads_in, graph_of}
 
 -- the graph has the dependent variables of the specification and what their tables read, and nothing else
 pub record IsWhole (spec : Data) : Type 0 where
-  pub dependent : (v : ℕ) → is_dependent (graph_of spec) v ≡ option_map_or depends (slice_get spec.variables v) false
-  pub reading : (v w : ℕ) → IsTrue (reads (graph_of spec) v w) ↔ IsTrue (reads_in spec.tables v w)
+  pub dependents : (v : ℕ) → is_dependent (graph_of spec) v ≡ variables.is_dependent spec v
+  pub reading : (v w : ℕ) → IsTrue (reads (graph_of spec) v w) ↔ IsTrue (reads_in spec v w)
   -- a variable that reads is dependent, and what it reads is declared
   pub readers : (v w : ℕ) → IsTrue (reads (graph_of spec) v w) → IsTrue (is_dependent (graph_of spec) v)
   pub declared : (v w : ℕ) → IsTrue (reads (graph_of spec) v w) → w < length spec.variables

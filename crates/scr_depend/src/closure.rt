@@ -60,7 +60,7 @@ fn reached(alloc: Global, g: &Graph, v: usize) -> Result<Items<bool>, NoMemory>
     ensures { IfOk result (AreReached g.now v) }
 {
     let mut marks = Items::new(alloc);
-    for round in 0..g.dependent.len() {
+    for _round in 0..g.dependent.len() {
         let more = spread(alloc, g, v, marks.as_slice())?;
         if is_same(marks.as_slice(), more.as_slice()) {
             return Ok(more);

@@ -1,12 +1,11 @@
 //! Which variables are dependent, and what each reads in the new state.
 ghost use Rattle.std.specs.Prelude.{◌≡◌, IfOk};
-ghost use Rattle.std.specs.List.{list_any};
 ghost use Rattle.scr_spec.specs.Shown.{data_of};
 ghost use Rattle.scr_depend.specs.Graphs.{is_among, list_at, OnlyDependentRead};
-ghost use Rattle.scr_depend.specs.Dependencies.{dependents, is_reader, reads_in, read_list, lists_below, graph_of};
+ghost use Rattle.scr_depend.specs.Dependencies.{dependents, list_of, read_list, read_lists, graph_of};
 
 use crate::reads::table_reads;
-use scr_spec::{Spec, Table, Variable};
+use scr_spec::{Spec, Table};
 use scr_text::NoMemory;
 use sqlite_items::Items;
 use std::alloc::Global;
@@ -65,53 +64,51 @@ impl Graph {
     }
 }
 
-/// Whether the table is that of v, and reads w.
-fn is_reader(table: &Table, v: usize, w: usize) -> bool
-    ensures { result ≡ is_reader v w table.now }
-{
-    table.variable == v && table_reads(table, w)
-}
-
-/// Whether v has a table that reads w.
-#[tactic(auto, unfolding(crate::specs::Dependencies::reads_in))]
-fn reads_in(tables: &[Table], v: usize, w: usize) -> bool
-    ensures { result ≡ reads_in tables.now v w }
-{
-    tables.iter().any(|table| is_reader(table, v, w))
-}
-
-/// What v reads, of so many variables.
+/// What the table reads, of so many variables.
 #[tactic(auto, using(crate::proofs::Lists::reads_steps))]
-fn read_list(alloc: Global, count: usize, tables: &[Table], v: usize) -> Result<ReadList, NoMemory>
-    ensures { IfOk result (λ list. list ≡ read_list count tables.now v) }
+fn list_of(alloc: Global, count: usize, table: &Table) -> Result<ReadList, NoMemory>
+    ensures { IfOk result (λ list. list ≡ list_of count table.now) }
 {
     let mut variables = Items::new(alloc);
     for w in 0..count {
-        if reads_in(tables, v, w) {
+        if table_reads(table, w) {
             variables.push(w)?;
         }
     }
     Ok(ReadList { variables })
 }
 
-/// What each of so many variables reads.
+/// What the table of the variable reads. A variable without a table reads nothing.
+#[tactic(auto, unfolding(crate::specs::Dependencies::read_list))]
+fn read_list(alloc: Global, spec: &Spec, v: usize) -> Result<ReadList, NoMemory>
+    ensures { IfOk result (λ list. list ≡ read_list (data_of spec.now) v) }
+{
+    match spec.table_of(v) {
+        Some(table) => list_of(alloc, spec.variables.len(), table),
+        None => Ok(ReadList {
+            variables: Items::new(alloc),
+        }),
+    }
+}
+
+/// What each variable reads.
 #[tactic(auto, using(crate::proofs::Lists::lists_steps))]
-fn read_lists(alloc: Global, count: usize, tables: &[Table]) -> Result<Items<ReadList>, NoMemory>
-    ensures { IfOk result (λ lists. lists ≡ lists_below count count tables.now) }
+fn read_lists(alloc: Global, spec: &Spec) -> Result<Items<ReadList>, NoMemory>
+    ensures { IfOk result (λ lists. lists ≡ read_lists (data_of spec.now)) }
 {
     let mut lists = Items::new(alloc);
-    for v in 0..count {
-        lists.push(read_list(alloc, count, tables, v)?)?;
+    for v in 0..spec.variables.len() {
+        lists.push(read_list(alloc, spec, v)?)?;
     }
     Ok(lists)
 }
 
 /// For each variable whether it is dependent.
-fn dependents(alloc: Global, variables: &[Variable]) -> Result<Items<bool>, NoMemory>
-    ensures { IfOk result (λ marks. marks ≡ dependents variables.now) }
+fn dependents(alloc: Global, spec: &Spec) -> Result<Items<bool>, NoMemory>
+    ensures { IfOk result (λ marks. marks ≡ dependents (data_of spec.now)) }
 {
     let mut marks = Items::new(alloc);
-    for variable in variables {
+    for variable in spec.variables.as_slice() {
         marks.push(!variable.role.is_monitored())?;
     }
     Ok(marks)
@@ -122,7 +119,7 @@ pub(crate) fn graph_of(alloc: Global, spec: &Spec) -> Result<Graph, NoMemory>
     ensures graph { IfOk result (λ g. g ≡ graph_of (data_of spec.now)) }
     ensures only { IfOk result (λ g. OnlyDependentRead g) }
 {
-    let dependent = dependents(alloc, spec.variables.as_slice())?;
-    let reads = read_lists(alloc, spec.variables.len(), spec.tables.as_slice())?;
+    let dependent = dependents(alloc, spec)?;
+    let reads = read_lists(alloc, spec)?;
     Ok(Graph { dependent, reads })
 }
