@@ -61,7 +61,7 @@ fn class_in_new(heading: Heading, new: bool) -> bool
     }
 }
 
-fn of_cell(
+fn cell_at(
     alloc: Global,
     spec: &Spec,
     heading: Heading,
@@ -79,7 +79,7 @@ fn of_cell(
 }
 
 #[tactic(auto, using(scr_spec::proofs::Lookup::lookup_laws))]
-fn cell_at(
+fn column_at(
     alloc: Global,
     spec: &Spec,
     heading: Heading,
@@ -92,7 +92,7 @@ fn cell_at(
 {
     match row.cells.get(column) {
         None => Ok(Formula::False),
-        Some(cell) => of_cell(alloc, spec, heading, new, cell),
+        Some(cell) => cell_at(alloc, spec, heading, new, cell),
     }
 }
 
@@ -110,7 +110,7 @@ pub fn hold_at(
     requires row_over { IsTrue (is_row_over (data_of spec.now) row.now) }
     ensures { IfOk result (λ f. f ≡ hold_formula (data_of spec.now) table.now new row.now column) }
 {
-    let cell = cell_at(alloc, spec, table.heading, new, row, column)?;
+    let cell = column_at(alloc, spec, table.heading, new, row, column)?;
     under_modes(
         alloc,
         class_in_new(table.heading, new),

@@ -19,10 +19,6 @@ use Rattle.scr_spec.specs.Cells.{row_cell_true}
 abbrev pub is_monitored : Data → ℕ → Bool
 is_monitored spec v = option_map_or (λ x. is_monitored_role x.role) (slice_get spec.variables v) false
 
--- a table gives the values of the variable
-abbrev pub is_dependent : Data → ℕ → Bool
-is_dependent spec v = option_map_or (λ x. not (is_monitored_role x.role)) (slice_get spec.variables v) false
-
 -- every monitored variable other than x keeps its code
 abbrev pub KeepsOthers : Data → ℕ → Codes → Codes → Type 0
 KeepsOthers spec x old new = (v : ℕ) → v ≢ x → IsTrue (is_monitored spec v) → code_of new v ≡ code_of old v
