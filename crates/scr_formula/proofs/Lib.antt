@@ -14,3 +14,5 @@ pub mod EventMeasure
 pub mod TableTruth
 pub mod TableMeasure
 pub mod FrozenLaws
+pub mod ViolationTruth
+pub mod ViolationMeasure

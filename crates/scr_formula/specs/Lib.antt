@@ -6,4 +6,5 @@ pub mod Conditions
 pub mod Measure
 pub mod Events
 pub mod Tables
+pub mod Violations
 pub mod Frozen

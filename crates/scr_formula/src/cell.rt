@@ -8,7 +8,8 @@ ghost use Rattle.scr_spec.specs.Cells.{is_cell_over, is_row_over, is_table_over}
 ghost use Rattle.scr_formula.specs.declared.formula.Formula.TheVariants.{False};
 ghost use Rattle.scr_formula.specs.Conditions.{has_code};
 ghost use Rattle.scr_formula.specs.Joined.{any_of};
-ghost use Rattle.scr_formula.specs.Tables.{class_in_new as class_new, under_modes as modes_formula, cell_formula, hold_formula};
+ghost use Rattle.scr_formula.specs.Tables.{class_in_new as class_new, under_modes as modes_formula, cell_formula, hold_formula, HasTruthOfCell};
+ghost use Rattle.scr_formula.specs.Measure.{IsOver};
 
 use crate::Formula;
 use crate::condition::{of_cond, variable_is};
@@ -32,7 +33,7 @@ fn has_some_code(alloc: Global, v: usize, new: bool, codes: &[i64]) -> Result<Fo
     Ok(disjunction(members))
 }
 
-fn under_modes(
+pub fn under_modes(
     alloc: Global,
     new: bool,
     class: Option<usize>,
@@ -61,7 +62,7 @@ fn class_in_new(heading: Heading, new: bool) -> bool
     }
 }
 
-fn of_cell(
+pub fn cell_at(
     alloc: Global,
     spec: &Spec,
     heading: Heading,
@@ -79,7 +80,7 @@ fn of_cell(
 }
 
 #[tactic(auto, using(scr_spec::proofs::Lookup::lookup_laws))]
-fn cell_at(
+fn column_at(
     alloc: Global,
     spec: &Spec,
     heading: Heading,
@@ -92,13 +93,11 @@ fn cell_at(
 {
     match row.cells.get(column) {
         None => Ok(Formula::False),
-        Some(cell) => of_cell(alloc, spec, heading, new, cell),
+        Some(cell) => cell_at(alloc, spec, heading, new, cell),
     }
 }
 
-/// The cell of the row at this column holds. A condition table is read in the new state where `new`
-/// is true and in the old one else; any other table in both.
-pub fn hold_at(
+fn hold_at(
     alloc: Global,
     spec: &Spec,
     table: &Table,
@@ -110,7 +109,7 @@ pub fn hold_at(
     requires row_over { IsTrue (is_row_over (data_of spec.now) row.now) }
     ensures { IfOk result (λ f. f ≡ hold_formula (data_of spec.now) table.now new row.now column) }
 {
-    let cell = cell_at(alloc, spec, table.heading, new, row, column)?;
+    let cell = column_at(alloc, spec, table.heading, new, row, column)?;
     under_modes(
         alloc,
         class_in_new(table.heading, new),
@@ -118,4 +117,25 @@ pub fn hold_at(
         row.modes.as_slice(),
         cell,
     )
+}
+
+/// The formula that says that a cell of the row holds. Columns count from 0, and a cell that is not
+/// there never holds. A condition table is read in the new state where `new` is true and in the old
+/// one else; any other table in both.
+#[tactic(auto, using(crate::proofs::TableTruth::cell_truth_ok))]
+pub fn of_cell(
+    alloc: Global,
+    spec: &Spec,
+    table: &Table,
+    new: bool,
+    row: &Row,
+    column: usize,
+) -> Result<Formula, NoMemory>
+    requires over { IsTrue (is_table_over (data_of spec.now) table.now) }
+    requires row_over { IsTrue (is_row_over (data_of spec.now) row.now) }
+    ensures formula { IfOk result (λ f. f ≡ hold_formula (data_of spec.now) table.now new row.now column) }
+    ensures truth { IfOk result (λ f. HasTruthOfCell (data_of spec.now) table.now new row.now column f) }
+    ensures narrow { IfOk result (λ f. IsOver (data_of spec.now) f) }
+{
+    hold_at(alloc, spec, table, new, row, column)
 }

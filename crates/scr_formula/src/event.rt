@@ -70,8 +70,8 @@ fn guarded_at(
     match guard {
         None => Ok(f),
         Some(c) => {
-            let before = of_cond(alloc, spec, c, false)?;
-            both(alloc, f, before)
+            let condition = of_cond(alloc, spec, c, false)?;
+            both(alloc, f, condition)
         }
     }
 }

@@ -12,9 +12,12 @@ mod level;
 mod relation;
 mod side;
 mod value;
+mod violation;
 
+pub use cell::of_cell;
 pub use condition::of_cond;
 pub use event::of_event;
 pub use formula::{Formula, Linear, Op, Term};
 pub use frozen::only_changed;
 pub use relation::{of_own, of_relation};
+pub use violation::{of_gap, of_outside};

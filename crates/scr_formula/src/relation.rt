@@ -7,7 +7,7 @@ ghost use Rattle.scr_formula.specs.Measure.{IsOver};
 ghost use Rattle.scr_formula.specs.Tables.{hold_formula, taken_formula, row_formulas, some_holds_formula, some_taken_formula, kept_formula, table_formula, own_formula, relation_formula, HasTruthOfOwn, HasTruthOfRelation};
 
 use crate::Formula;
-use crate::cell::hold_at;
+use crate::cell::of_cell;
 use crate::event::keeps_code;
 use crate::join::{both, disjunction, either, negation};
 use crate::value::takes_at;
@@ -28,7 +28,7 @@ fn taken_at(
     requires row_over { IsTrue (is_row_over (data_of spec.now) row.now) }
     ensures { IfOk result (λ f. f ≡ taken_formula (data_of spec.now) table.now new row.now column) }
 {
-    let hold = hold_at(alloc, spec, table, new, row, column)?;
+    let hold = of_cell(alloc, spec, table, new, row, column)?;
     let takes = takes_at(alloc, spec, table, new, row, column)?;
     both(alloc, hold, takes)
 }
@@ -68,7 +68,7 @@ fn push_holds(
 {
     let count = row.cells.len();
     for column in 0..count {
-        let member = hold_at(alloc, spec, table, true, row, column)?;
+        let member = of_cell(alloc, spec, table, true, row, column)?;
         out.push(member)?;
     }
     Ok(())
