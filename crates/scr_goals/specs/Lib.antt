@@ -1,0 +1,6 @@
+pub mod Related
+pub mod Meets
+pub mod Pairs
+pub mod Goals
+pub mod Formulas
+pub mod Laws

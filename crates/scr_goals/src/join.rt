@@ -1,0 +1,50 @@
+//! Formulas joined by not, and, or.
+ghost use Rattle.std.specs.Prelude.{◌≡◌, [], ◌∷◌, IfOk};
+ghost use Rattle.scr_formula.specs.declared.formula.Formula.TheVariants.{Not, And};
+ghost use Rattle.scr_formula.specs.Joined.{all_of, any_of};
+
+use scr_formula::Formula;
+use scr_text::NoMemory;
+use sqlite_items::{Boxed, Items};
+use std::alloc::Global;
+
+pub fn negation(alloc: Global, f: Formula) -> Result<Formula, NoMemory>
+    ensures { IfOk result (λ g. g ≡ Not f) }
+{
+    Ok(Formula::Not(Boxed::new(alloc, f)?))
+}
+
+pub fn both(alloc: Global, f: Formula, g: Formula) -> Result<Formula, NoMemory>
+    ensures { IfOk result (λ h. h ≡ And (f ∷ g ∷ [])) }
+{
+    let mut members = Items::new(alloc);
+    members.push(f)?;
+    members.push(g)?;
+    Ok(Formula::And(members))
+}
+
+pub fn conjunction(mut members: Items<Formula>) -> Formula
+    ensures { result ≡ all_of members }
+{
+    match members.len() {
+        0 => Formula::True,
+        1 => match members.pop() {
+            Some(member) => member,
+            None => Formula::True,
+        },
+        _ => Formula::And(members),
+    }
+}
+
+pub fn disjunction(mut members: Items<Formula>) -> Formula
+    ensures { result ≡ any_of members }
+{
+    match members.len() {
+        0 => Formula::False,
+        1 => match members.pop() {
+            Some(member) => member,
+            None => Formula::False,
+        },
+        _ => Formula::Or(members),
+    }
+}

@@ -1,0 +1,20 @@
+//! What is checked of a table: its goals, and their formulas, which are true exactly of what is
+//! wrong.
+#![tactic(auto)]
+
+mod cell;
+mod formula;
+mod goal;
+mod join;
+mod law;
+mod level;
+mod list;
+mod pair;
+mod range;
+mod side;
+
+pub use formula::goal_formula;
+pub use goal::{Goal, GoalKind};
+pub use law::{goals_decide, same_unbounded};
+pub use list::goals;
+pub use pair::{change, pairs};
