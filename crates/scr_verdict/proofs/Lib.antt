@@ -1,0 +1,17 @@
+pub mod Occurs
+pub mod SameTruth
+pub mod Truths
+pub mod Counting
+pub mod Answers
+pub mod Listed
+pub mod Progress
+pub mod OneLeast
+pub mod OneNeed
+pub mod AtomTests
+pub mod LevelLaws
+pub mod Judging
+pub mod Lists
+pub mod OneVerdict
+pub mod Solutions
+pub mod Telling
+pub mod Written
