@@ -2,6 +2,7 @@
 //! none, and what a variable needs in the new state.
 #![tactic(auto)]
 
+mod checked;
 mod closure;
 mod fault;
 mod graph;
@@ -10,6 +11,7 @@ mod order;
 mod reads;
 mod walk;
 
+pub use checked::Checked;
 pub use closure::need;
 pub use fault::DependFault;
 pub use graph::ReadList;

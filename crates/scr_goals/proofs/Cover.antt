@@ -26,7 +26,7 @@ use Rattle.scr_formula.specs.Tables.{cell_formula, under_modes}
 use Rattle.scr_formula.proofs.FormulaLaws.{holds_at-False}
 use Rattle.scr_formula.proofs.ConditionTruth.{holds_at-has_code, holds_at-condition_formula}
 use Rattle.scr_formula.proofs.JoinTruth.{holds_at-any_map, holds_at-both, holds_at-negation}
-use Rattle.scr_goals.specs.Meets.{IsCovering}
+use Rattle.scr_depend.specs.Meets.{IsCovering}
 use Rattle.scr_goals.specs.Goals.{cover_goal, cover_goals}
 use Rattle.scr_goals.specs.Formulas.{cell_at_formula, uncovered_formula, at_row, HasNoSolution}
 use Rattle.scr_goals.proofs.Lists.{each_like, each_flat, each_range, chain}

@@ -29,8 +29,8 @@ use Rattle.scr_formula.proofs.FrozenLaws.{holds_at-frozen, truth_ok}
 use Rattle.scr_formula.specs.Frozen.{HasTruthWhereKept}
 use Rattle.scr_goals.specs.declared.goal.GoalKind.TheVariants.{Disjoint}
 use Rattle.scr_goals.specs.declared.goal.Goal.{Goal}
-use Rattle.scr_goals.specs.Related.{IsRelatedBy, IsRelated}
-use Rattle.scr_goals.specs.Meets.{IsJudgedAt, IsDisjoint}
+use Rattle.scr_depend.specs.Related.{IsRelatedBy, IsRelated}
+use Rattle.scr_depend.specs.Meets.{IsJudgedAt, IsDisjoint}
 use Rattle.scr_goals.specs.Pairs.{pair_formulas, TellRelated}
 use Rattle.scr_goals.specs.Goals.{monitored_variables, changes_in, disjoint_goal, columns_behind, disjoint_goals, columns_in}
 use Rattle.scr_goals.specs.Formulas.{held, violated, violation, table_goal_formula, HasNoSolution}

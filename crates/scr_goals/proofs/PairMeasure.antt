@@ -23,7 +23,7 @@ use Rattle.scr_formula.proofs.ConditionMeasure.{neg_size, over_atom, over_not}
 use Rattle.scr_formula.proofs.EventMeasure.{over_same_code}
 use Rattle.scr_formula.proofs.TableMeasure.{own_over_ok, relation_over_ok}
 use Rattle.scr_depend.specs.Graphs.{is_among}
-use Rattle.scr_goals.specs.Related.{bound_of}
+use Rattle.scr_depend.specs.Related.{bound_of}
 use Rattle.scr_goals.specs.Pairs.{at_most_above, bounded_change, change_formula, need_formulas, pair_formulas, ArePairs, AreOver}
 use Rattle.scr_goals.proofs.Members.{all_flat}
 use Rattle.scr_goals.proofs.Bounds.{monitored_within, bound_narrow}

@@ -28,7 +28,7 @@ use Rattle.scr_depend.specs.Dependencies.{graph_of}
 use Rattle.scr_depend.specs.Orders.{IsOrder}
 use Rattle.scr_depend.specs.Needs.{IsNeed}
 use Rattle.scr_depend.specs.Walks.{Needs}
-use Rattle.scr_goals.specs.Related.{bound_of, IsBounded, MeetsNeeds}
+use Rattle.scr_depend.specs.Related.{bound_of, IsBounded, MeetsNeeds}
 use Rattle.scr_goals.specs.Pairs.{at_most_above, bounded_change, need_formulas, pair_formulas, ArePairs, TellRelated}
 
 -- a test that is another test

@@ -29,8 +29,8 @@ use Rattle.scr_formula.proofs.SideTruth.{split_items, away_items}
 use Rattle.scr_formula.proofs.JoinTruth.{holds_at-both, holds_at-negation}
 use Rattle.scr_goals.specs.declared.goal.GoalKind.TheVariants.{Range}
 use Rattle.scr_goals.specs.declared.goal.Goal.{Goal}
-use Rattle.scr_goals.specs.Related.{IsRelatedBy}
-use Rattle.scr_goals.specs.Meets.{IsJudgedAt}
+use Rattle.scr_depend.specs.Related.{IsRelatedBy}
+use Rattle.scr_depend.specs.Meets.{IsJudgedAt}
 use Rattle.scr_goals.specs.Goals.{range_goal, range_goals, has_range, columns_in, changes_in, monitored_variables}
 use Rattle.scr_goals.specs.Formulas.{column_terms, at_least, at_most, outside_formula, violation, violated, table_goal_formula, HasNoSolution}
 use Rattle.scr_goals.proofs.Bounds.{monitored_within}

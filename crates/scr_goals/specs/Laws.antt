@@ -12,8 +12,8 @@ use Rattle.scr_spec.specs.Relations.{table_of, cell_value}
 use Rattle.scr_depend.specs.Dependencies.{graph_of}
 use Rattle.scr_depend.specs.Orders.{IsOrder}
 use Rattle.scr_depend.specs.Needs.{IsNeed}
-use Rattle.scr_goals.specs.Related.{HasNoBounds, IsRelated, IsRelatedFreely}
-use Rattle.scr_goals.specs.Meets.{IsJudgedAt, IsDisjoint, CoversAt}
+use Rattle.scr_depend.specs.Related.{HasNoBounds, IsRelated, IsRelatedFreely}
+use Rattle.scr_depend.specs.Meets.{IsJudgedAt, IsDisjoint, CoversAt}
 use Rattle.scr_goals.specs.Goals.{has_range, goals_of}
 use Rattle.scr_goals.specs.Formulas.{goal_formula_of, HasNoSolution}
 

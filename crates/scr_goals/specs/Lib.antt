@@ -1,5 +1,3 @@
-pub mod Related
-pub mod Meets
 pub mod Pairs
 pub mod Goals
 pub mod Formulas

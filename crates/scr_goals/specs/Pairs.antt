@@ -17,7 +17,7 @@ use Rattle.scr_formula.specs.Measure.{is_atom_over, all_atoms}
 use Rattle.scr_depend.specs.Graphs.{is_among}
 use Rattle.scr_depend.specs.Dependencies.{graph_of}
 use Rattle.scr_depend.specs.Needs.{IsNeed}
-use Rattle.scr_goals.specs.Related.{bound_of, IsRelatedBy}
+use Rattle.scr_depend.specs.Related.{bound_of, IsRelatedBy}
 
 -- one level of the variable less the other, with a constant; the new level less the old one where `new` is true
 abbrev pub apart : Bool → ℕ → ℤ → Op → Formula

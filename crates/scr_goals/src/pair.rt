@@ -7,7 +7,7 @@ ghost use Rattle.scr_formula.specs.Measure.{IsOver};
 ghost use Rattle.scr_formula.specs.Events.{same_code};
 ghost use Rattle.scr_depend.specs.Graphs.{is_among};
 ghost use Rattle.scr_depend.specs.Results.{IsOrderOf};
-ghost use Rattle.scr_goals.specs.Related.{bound_of};
+ghost use Rattle.scr_depend.specs.Related.{bound_of};
 ghost use Rattle.scr_goals.specs.Pairs.{apart, at_most_above, bounded_change, change_formula, need_formulas, pair_formulas, ArePairs, TellRelated, AreOver};
 
 use crate::join::negation;

@@ -2,5 +2,7 @@
 #![tactic(auto)]
 
 mod faults;
+mod reports;
 
 pub use faults::{push_text_fault, push_type_fault};
+pub use reports::{push_cycle, push_order, push_verdict};
