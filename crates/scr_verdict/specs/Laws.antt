@@ -15,11 +15,17 @@ use Rattle.scr_verdict.specs.declared.witness.Witness.{Witness}
 use Rattle.scr_verdict.specs.declared.verdict.Verdict.{Verdict}
 use Rattle.scr_verdict.specs.declared.verdict.Verdict.TheVariants.{Yes, No}
 use Rattle.scr_verdict.specs.Readings.{occurs}
-use Rattle.scr_verdict.specs.Verdicts.{HasVerdict}
+use Rattle.scr_verdict.specs.Verdicts.{HasVerdict, AreVerdicts}
 
 -- a table has at most one verdict
 pub record OneVerdict : Type 0 where
   pub once : (spec : Data) (order : List ℕ) (v limit : ℕ) (a b : Verdict) → HasVerdict spec order v limit a → HasVerdict spec order v limit b → a ≡ b
+
+-- each table has a verdict, and a specification has one list of verdicts, and never none
+pub record SomeVerdict : Type 0 where
+  pub some : (spec : Data) (order : List ℕ) (v limit : ℕ) → ((verdict : Verdict) → HasVerdict spec order v limit verdict → ⊥) → ⊥
+  pub all_once : (spec : Data) (order : List ℕ) (limit : ℕ) (a b : List Verdict) → AreVerdicts spec order limit a → AreVerdicts spec order limit b → a ≡ b
+  pub all_some : (spec : Data) (order : List ℕ) (limit : ℕ) → ((verdicts : List Verdict) → AreVerdicts spec order limit verdicts → ⊥) → ⊥
 
 -- the code that a pair of states gives a level
 abbrev pub pair_reading : Codes → Codes → ℕ → Reading
