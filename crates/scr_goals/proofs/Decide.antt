@@ -1,4 +1,4 @@
--- No goal of a variable has a solution exactly where its table meets what the goals ask for.
+-- No goal of a variable has a solution exactly where its table meets its checks.
 use Rattle.std.proofs.Common.{◌≡◌, ◌↔◌, ℕ, Bool, true, false, cond, List, [], ◌∷◌, Some, refl, sym, subst, arith}
 use Rattle.std.specs.Prelude.{nat_eq, find}
 use Rattle.std.specs.Option.{option_map_or}
@@ -16,9 +16,11 @@ use Rattle.scr_depend.specs.Orders.{IsOrder}
 use Rattle.scr_depend.specs.Needs.{IsNeed}
 use Rattle.scr_goals.specs.Goals.{table_goals, goals_of}
 use Rattle.scr_goals.specs.Formulas.{table_goal_formula, goal_formula_of, HasNoSolution}
-use Rattle.scr_goals.specs.Laws.{MeetsGoals, GoalsDecide}
+use Rattle.scr_depend.specs.Meets.{MeetsChecks}
+use Rattle.scr_goals.specs.Laws.{GoalsDecide}
+use Rattle.scr_goals.proofs.Asked.{asked_suffices, asked_follows}
 use Rattle.scr_goals.proofs.PairTruth.{pairs_tell}
-use Rattle.scr_goals.proofs.Disjoint.{Told}
+use Rattle.scr_goals.proofs.Disjoint.{Told, HasNone}
 use Rattle.scr_goals.proofs.Split.{split}
 use Rattle.scr_goals.proofs.Whole.{MustSplit, table_law}
 
@@ -45,12 +47,14 @@ must_split spec v table Events sound found e = tt
 must_split spec v table Modes sound found e = tt
 
 decided : (spec : Data) (order need : List ℕ) (v : ℕ) (table : Table) → IsSound spec → IsOrder (graph_of spec) order → IsNeed (graph_of spec) v need → table_of spec v ≡ Some table
-    → All (λ g. HasNoSolution spec (goal_formula_of spec order need v g)) (goals_of spec v) ↔ MeetsGoals spec table
+    → All (λ g. HasNoSolution spec (goal_formula_of spec order need v g)) (goals_of spec v) ↔ MeetsChecks spec table
 decided spec order need v table sound ordered needed found =
     let own = subst (λ w. IsNeed (graph_of spec) w need) (sym (own_variable spec v table found)) needed in
     let told : Told spec order need table.variable = λ x. pairs_tell spec order need table.variable x ordered own in
-    let law = table_law spec table order need told (must_split spec v table table.heading sound found refl) in
-    subst (λ o. All (λ g. HasNoSolution spec (option_map_or (λ t. table_goal_formula spec order need t g) o False)) (option_map_or (table_goals spec) o []) ↔ MeetsGoals spec table) (sym found) law
+    let asked = table_law spec table order need told (must_split spec v table table.heading sound found refl) in
+    let law : All (HasNone spec order need table) (table_goals spec table) ↔ MeetsChecks spec table
+    = ((λ h. asked_suffices spec v table sound found (asked.0 h)), (λ m. asked.1 (asked_follows spec table m))) in
+    subst (λ o. All (λ g. HasNoSolution spec (option_map_or (λ t. table_goal_formula spec order need t g) o False)) (option_map_or (table_goals spec) o []) ↔ MeetsChecks spec table) (sym found) law
 
 pub goals_decide : GoalsDecide
 goals_decide = record { decide = decided }

@@ -12,7 +12,9 @@ pub mod Mixed
 pub mod Disjoint
 pub mod Ranges
 pub mod Cover
-pub mod Whole
 pub mod Split
+pub mod Sorts
+pub mod Asked
+pub mod Whole
 pub mod Unbounded
 pub mod Decide

@@ -7,7 +7,7 @@ use Rattle.scr_spec.specs.declared.table.Heading.TheVariants.{Condition, Event a
 use Rattle.scr_spec.specs.declared.table.Table.{Table}
 use Rattle.scr_goals.specs.declared.goal.Goal.{Goal}
 use Rattle.scr_depend.specs.Meets.{CoversAt}
-use Rattle.scr_goals.specs.Laws.{MeetsGoals}
+use Rattle.scr_goals.proofs.Asked.{MeetsGoals}
 use Rattle.scr_goals.specs.Goals.{changes_in, columns_in, disjoint_goals, cover_goals, range_goals, table_goals}
 use Rattle.scr_goals.proofs.Lists.{each_all, each_append}
 use Rattle.scr_goals.proofs.Disjoint.{Told, HasNone, disjoint_law}

@@ -7,7 +7,7 @@ pub fn same_unbounded()
 {}
 
 /// No goal of a variable has a solution exactly where the cells of its table exclude each other, a
-/// condition table covers all states, and the values that the goals ask for are in range.
+/// condition table covers all states, and each value of a cell that holds is in range.
 pub fn goals_decide()
     ensures { GoalsDecide }
 {}
