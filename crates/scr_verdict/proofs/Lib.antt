@@ -15,3 +15,4 @@ pub mod OneVerdict
 pub mod Solutions
 pub mod Telling
 pub mod Written
+pub mod Right

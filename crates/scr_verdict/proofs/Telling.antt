@@ -26,7 +26,7 @@ use Rattle.scr_verdict.proofs.Solutions.{no_solution, shows_solution}
 mapped_get : {X Y : Type 0} (h : X → Y) (xs : List X) (i : ℕ) (x : X) → slice_get xs i ≡ Some x → slice_get (map h xs) i ≡ Some (h x)
 mapped_get h xs i x e = mapped_there h xs i x (h x) (slice_get_within xs i x e) (sym (get_or_from_slice_get xs i x x e)) refl
 
-told_yes : (spec : Data) (order need : List ℕ) (v limit : ℕ) → IsNeed (graph_of spec) v need → HasVerdict spec order v limit Yes
+pub told_yes : (spec : Data) (order need : List ℕ) (v limit : ℕ) → IsNeed (graph_of spec) v need → HasVerdict spec order v limit Yes
     → All (λ g. HasNoSolution spec (goal_formula_of spec order need v g)) (goals_of spec v)
 told_yes spec order need v limit needed h i d lt =
     let goals = goals_of spec v in
