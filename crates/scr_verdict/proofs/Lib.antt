@@ -15,3 +15,5 @@ pub mod OneVerdict
 pub mod Solutions
 pub mod Telling
 pub mod Written
+pub mod SomeLeast
+pub mod SomeVerdict

@@ -9,6 +9,6 @@ mod verdict;
 mod witness;
 
 pub use check::{Outcome, check};
-pub use law::{one_verdict, verdicts_tell};
+pub use law::{one_verdict, some_verdict, verdicts_tell};
 pub use verdict::{Verdict, judge, judge_all};
 pub use witness::{Reading, Witness};
