@@ -10,8 +10,8 @@ use Rattle.scr_depend.specs.Dependencies.{graph_of}
 use Rattle.scr_depend.specs.Results.{IsOrderOf, HasCycle}
 use Rattle.scr_verdict.specs.declared.verdict.Verdict.{Verdict}
 use Rattle.scr_verdict.specs.declared.verdict.Verdict.TheVariants.{Yes, No, Undecided}
-use Rattle.scr_verdict.specs.declared.check.Outcome.{Outcome}
-use Rattle.scr_verdict.specs.declared.check.Outcome.TheVariants.{Passed, Circular, Found}
+use Rattle.scr_verdict.specs.declared.outcome.Outcome.{Outcome}
+use Rattle.scr_verdict.specs.declared.outcome.Outcome.TheVariants.{Passed, Circular, Found}
 use Rattle.scr_verdict.specs.Verdicts.{HasVerdict, AreVerdicts}
 
 abbrev pub is_yes : Verdict → Bool
