@@ -16,3 +16,5 @@ pub mod Solutions
 pub mod Telling
 pub mod Written
 pub mod Right
+pub mod SomeLeast
+pub mod SomeVerdict
