@@ -1,34 +1,27 @@
 -- The cover goals of a condition table have no solution exactly where the table covers.
-use Rattle.std.proofs.Common.{◌≡◌, ◌↔◌, ℕ, suc, ◌+◌, ◌-◌, ◌<◌, ℤ, Bool, true, false, not, ◌&&◌, ◌||◌, List, [], ◌∷◌, map, length, Option, Some, None, refl, sym, ap, subst, ◌∙◌, IsTrue}
+use Rattle.std.proofs.Common.{◌≡◌, ◌↔◌, ℕ, zero, suc, ◌+◌, ◌-◌, ◌<◌, Bool, true, false, not, ◌&&◌, ◌||◌, List, [], ◌∷◌, length, Option, Some, None, refl, sym, ap, subst, ◌∙◌, arith, IsTrue}
 use Rattle.std.specs.Prelude.{slice_get}
 use Rattle.std.specs.Option.{option_map_or}
-use Rattle.std.specs.Ordering.{int_eq}
 use Rattle.std.specs.List.{list_any, flat_map, range_with_len, AllByRecursion as Each}
 use Rattle.std.proofs.lemmas.Bool.{and_parts}
 use Rattle.std.proofs.lemmas.List.Folds.{list_any_at}
 use Rattle.std.proofs.lemmas.Option.{slice_get_within, get_or_from_slice_get}
 use Rattle.scr_spec.specs.Data.{Data}
-use Rattle.scr_spec.specs.declared.table.Cell.{Cell}
-use Rattle.scr_spec.specs.declared.table.Cell.TheVariants as cell
 use Rattle.scr_spec.specs.declared.table.Row.{Row}
 use Rattle.scr_spec.specs.declared.table.Heading.TheVariants.{Condition}
 use Rattle.scr_spec.specs.declared.table.Table.{Table}
-use Rattle.scr_spec.specs.Meaning.{Codes, code_of}
+use Rattle.scr_spec.specs.Meaning.{Codes}
 use Rattle.scr_spec.specs.Domains.{IsTyped}
 use Rattle.scr_spec.specs.Cells.{in_modes, looked_at, cell_true, row_cell_true}
-use Rattle.scr_formula.specs.declared.formula.Formula.{Formula}
-use Rattle.scr_formula.specs.declared.formula.Formula.TheVariants.{False, Not}
+use Rattle.scr_formula.specs.declared.formula.Formula.TheVariants.{False}
 use Rattle.scr_formula.specs.Truth.{holds_at}
 use Rattle.scr_formula.specs.Levels.{valuation_of}
-use Rattle.scr_formula.specs.Conditions.{has_code}
-use Rattle.scr_formula.specs.Joined.{any_of}
-use Rattle.scr_formula.specs.Tables.{cell_formula, under_modes}
+use Rattle.scr_formula.specs.Violations.{gap_formula}
 use Rattle.scr_formula.proofs.FormulaLaws.{holds_at-False}
-use Rattle.scr_formula.proofs.ConditionTruth.{holds_at-has_code, holds_at-condition_formula}
-use Rattle.scr_formula.proofs.JoinTruth.{holds_at-any_map, holds_at-both, holds_at-negation}
+use Rattle.scr_formula.proofs.ViolationTruth.{holds_at-gap_formula}
 use Rattle.scr_depend.specs.Meets.{IsCovering}
 use Rattle.scr_goals.specs.Goals.{cover_goal, cover_goals}
-use Rattle.scr_goals.specs.Formulas.{cell_at_formula, uncovered_formula, at_row, HasNoSolution}
+use Rattle.scr_goals.specs.Formulas.{at_row, HasNoSolution}
 use Rattle.scr_goals.proofs.Lists.{each_like, each_flat, each_range, chain}
 use Rattle.scr_goals.proofs.PairTruth.{false_is_true}
 use Rattle.scr_goals.proofs.Disjoint.{one_less, HasNone}
@@ -46,34 +39,21 @@ IsSplitByMode spec table = (at : Codes) → IsTyped spec at → IsInOneRow table
 
 -- a condition of the row is true
 abbrev any_cell : Data → Row → Codes → Bool
-any_cell spec r s = list_any (λ j. option_map_or (cell_true spec Condition s s) (slice_get r.cells j) false) (range_with_len 0 (length r.cells))
+any_cell spec r s = list_any (cell_true spec Condition s s) r.cells
 
-cell_truth : (spec : Data) (s t : Codes) (c : Cell) → holds_at (valuation_of s t) (cell_formula spec Condition false c) ≡ cell_true spec Condition s s c
-cell_truth spec s t (cell.Cond c) = holds_at-condition_formula spec s t false c
-cell_truth spec s t (cell.Event e) = holds_at-False _
+any_shifted : (p q : ℕ → Bool) → ((j : ℕ) → p (suc j) ≡ q j) → (a b n : ℕ) → suc a ≡ b → list_any p (range_with_len b n) ≡ list_any q (range_with_len a n)
+any_shifted p q same a b zero e = refl
+any_shifted p q same a b (suc n) e =
+    let here : p b ≡ q a = ap p (sym e) ∙ same a in
+    let rest = any_shifted p q same (a + 1) (b + 1) n (omega (arith, e)) in
+    cc
 
-found_truth : (spec : Data) (s t : Codes) (o : Option Cell)
-    → holds_at (valuation_of s t) (option_map_or (cell_formula spec Condition false) o False) ≡ option_map_or (cell_true spec Condition s s) o false
-found_truth spec s t None = holds_at-False _
-found_truth spec s t (Some c) = cell_truth spec s t c
-
-modes_truth : (s t : Codes) (class : Option ℕ) (modes : List ℤ) (f : Formula) (a : Bool) → holds_at (valuation_of s t) f ≡ a
-    → holds_at (valuation_of s t) (under_modes false class modes f) ≡ in_modes class modes s && a
-modes_truth s t None modes f a e = e
-modes_truth s t (Some v) modes f a e =
-    holds_at-both _ (any_of (map (has_code false v) modes)) f (list_any (λ mode. int_eq (code_of s v) mode) modes) a
-    (holds_at-any_map (valuation_of s t) (has_code false v) (λ mode. int_eq (code_of s v) mode) modes (λ mode. holds_at-has_code s t false v mode))
-    e
-
-cover_truth : (spec : Data) (table : Table) (r : Row) (s t : Codes) → table.heading ≡ Condition
-    → holds_at (valuation_of s t) (uncovered_formula spec table r) ≡ in_modes table.class r.modes s && not (any_cell spec r s)
-cover_truth spec table r s t e =
-    modes_truth s t table.class r.modes (Not (any_of (map (cell_at_formula spec table r) (range_with_len 0 (length r.cells))))) _
-    (holds_at-negation _ _ _
-    (holds_at-any_map (valuation_of s t) (cell_at_formula spec table r) (λ j. option_map_or (cell_true spec Condition s s) (slice_get r.cells j) false) (range_with_len 0 (length r.cells))
-    (λ j.
-    ap (λ h. holds_at (valuation_of s t) (option_map_or (cell_formula spec h false) (slice_get r.cells j) False)) e
-    ∙ found_truth spec s t (slice_get r.cells j))))
+-- a test of the items of a list, by their places
+any_placed : {X : Type 0} (p : X → Bool) (xs : List X) → list_any (λ j. option_map_or p (slice_get xs j) false) (range_with_len 0 (length xs)) ≡ list_any p xs
+any_placed p [] = refl
+any_placed p (x ∷ xs) =
+    ap (λ b. p x || b)
+    (any_shifted (λ j. option_map_or p (slice_get (x ∷ xs) j) false) (λ j. option_map_or p (slice_get xs j) false) (λ j. refl) 0 1 (length xs) refl ∙ any_placed p xs)
 
 list_any-and : {X : Type 0} (a : Bool) (q : X → Bool) (xs : List X) → list_any (λ x. a && q x) xs ≡ a && list_any q xs
 list_any-and true q [] = refl
@@ -89,6 +69,7 @@ row_truth : (spec : Data) (table : Table) (s : Codes) (r : Row) → table.headin
 row_truth spec table s r e =
     ap (λ h. list_any (λ column. in_modes table.class r.modes (looked_at h s s) && option_map_or (cell_true spec h s s) (slice_get r.cells column) false) (range_with_len 0 (length r.cells))) e
     ∙ list_any-and (in_modes table.class r.modes s) (λ j. option_map_or (cell_true spec Condition s s) (slice_get r.cells j) false) (range_with_len 0 (length r.cells))
+    ∙ ap (λ b. in_modes table.class r.modes s && b) (any_placed (cell_true spec Condition s s) r.cells)
 
 pub any_found : {X : Type 0} (p : X → Bool) (xs : List X) → IsTrue (list_any p xs) → (k : ℕ) × (x : X) × (slice_get xs k ≡ Some x) × IsTrue (p x)
 any_found p [] h = absurd (false_is_true h)
@@ -108,8 +89,8 @@ true_unless false h = absurd (h refl)
 both_true : (a b : Bool) → a ≡ true → b ≡ false → a && not b ≡ true
 both_true a b e k = ap (λ c. c && not b) e ∙ ap not k
 
-cover_found : (spec : Data) (table : Table) (s t : Codes) (o : Option Row) → IsTrue (holds_at (valuation_of s t) (option_map_or (uncovered_formula spec table) o False))
-    → (r : Row) × (o ≡ Some r) × IsTrue (holds_at (valuation_of s t) (uncovered_formula spec table r))
+cover_found : (spec : Data) (table : Table) (s t : Codes) (o : Option Row) → IsTrue (holds_at (valuation_of s t) (option_map_or (gap_formula spec table) o False))
+    → (r : Row) × (o ≡ Some r) × IsTrue (holds_at (valuation_of s t) (gap_formula spec table r))
 cover_found spec table s t None h = absurd (false_is_true (sym (holds_at-False _) ∙ h))
 cover_found spec table s t (Some r) h = (r, refl, h)
 
@@ -117,17 +98,17 @@ not_true : (b : Bool) → not b ≡ true → b ≡ true → ⊥
 not_true true h e = false_is_true h
 not_true false h e = false_is_true e
 
-cover_one : (spec : Data) (table : Table) (order need : List ℕ) (row : ℕ) → HasNone spec order need table (cover_goal row) ↔ HasNoSolution spec (at_row table row (uncovered_formula spec table))
+cover_one : (spec : Data) (table : Table) (order need : List ℕ) (row : ℕ) → HasNone spec order need table (cover_goal row) ↔ HasNoSolution spec (at_row table row (gap_formula spec table))
 cover_one spec table order need row =
-    let e : at_row table (row + 1 - 1) (uncovered_formula spec table) ≡ at_row table row (uncovered_formula spec table) = ap (λ n. at_row table n (uncovered_formula spec table)) (one_less row) in
+    let e : at_row table (row + 1 - 1) (gap_formula spec table) ≡ at_row table row (gap_formula spec table) = ap (λ n. at_row table n (gap_formula spec table)) (one_less row) in
     ((λ h. subst (HasNoSolution spec) e h), (λ h. subst (HasNoSolution spec) (sym e) h))
 
 cover_list : (spec : Data) (table : Table) (order need : List ℕ)
     → Each (HasNone spec order need table) (flat_map (cover_goals Condition) (range_with_len 0 (length table.rows)))
-    ↔ ((row : ℕ) → row < length table.rows → HasNoSolution spec (at_row table row (uncovered_formula spec table)))
+    ↔ ((row : ℕ) → row < length table.rows → HasNoSolution spec (at_row table row (gap_formula spec table)))
 cover_list spec table order need =
     let U = HasNone spec order need table in
-    let V : ℕ → Type 0 = λ row. HasNoSolution spec (at_row table row (uncovered_formula spec table)) in
+    let V : ℕ → Type 0 = λ row. HasNoSolution spec (at_row table row (gap_formula spec table)) in
     chain (each_flat U (cover_goals Condition) (range_with_len 0 (length table.rows)))
     (chain (each_like (λ row. Each U (cover_goals Condition row)) V (λ row. let w = cover_one spec table order need row in ((λ h. w.0 h.0), (λ h. (w.1 h, tt)))) (range_with_len 0 (length table.rows)))
     (each_range V (length table.rows)))
@@ -140,14 +121,14 @@ cover_law spec table order need e split =
       (λ none at typed.
           let w = split at typed in
           let cell : any_cell spec w.it at ≡ true = true_unless (any_cell spec w.it at) (λ f.
-          let there : holds_at (valuation_of at at) (at_row table w.row (uncovered_formula spec table)) ≡ true
-          = ap (λ o. holds_at (valuation_of at at) (option_map_or (uncovered_formula spec table) o False)) w.there ∙ cover_truth spec table w.it at at e ∙ both_true _ _ w.has f in
+          let there : holds_at (valuation_of at at) (at_row table w.row (gap_formula spec table)) ≡ true
+          = ap (λ o. holds_at (valuation_of at at) (option_map_or (gap_formula spec table) o False)) w.there ∙ holds_at-gap_formula spec table w.it at at ∙ both_true _ _ w.has f in
           none w.row (slice_get_within table.rows w.row w.it w.there) at at (record { old = typed; new = typed; truth = there })) in
           any_there (holds_row spec table at) table.rows w.row w.it w.there (row_truth spec table at w.it e ∙ ap (λ b. b && any_cell spec w.it at) w.has ∙ cell)),
       (λ covers row m s t solution.
           let c = cover_found spec table s t (slice_get table.rows row) solution.truth in
           let w = split s solution.old in
-          let both = and_parts (in_modes table.class c.0.modes s) (not (any_cell spec c.0 s)) (sym (cover_truth spec table c.0 s t e) ∙ c.2) in
+          let both = and_parts (in_modes table.class c.0.modes s) (not (any_cell spec c.0 s)) (sym (holds_at-gap_formula spec table c.0 s t) ∙ c.2) in
           let k = any_found (holds_row spec table s) table.rows (covers s solution.old) in
           let other = and_parts (in_modes table.class k.1.modes s) (any_cell spec k.1 s) (sym (row_truth spec table s k.1 e) ∙ k.3) in
           let same : k.1 ≡ c.0 = w.only k.0 k.1 k.2 other.0 ∙ sym (w.only row c.0 c.1 both.0) in

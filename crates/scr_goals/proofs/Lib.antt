@@ -5,8 +5,8 @@ pub mod Bounds
 pub mod Calls
 pub mod PairTruth
 pub mod PairMeasure
-pub mod GoalMeasure
 pub mod Narrow
+pub mod GoalMeasure
 pub mod Lists
 pub mod Mixed
 pub mod Disjoint

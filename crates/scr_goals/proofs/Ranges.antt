@@ -1,109 +1,51 @@
 -- The range goals of a table have no solution exactly where each value that may vary is in range.
-use Rattle.std.proofs.Common.{◌≡◌, ◌↔◌, ℕ, ◌+◌, ◌-◌, ◌<◌, ℤ, pos, ◌+ℤ◌, ◌-ℤ◌, ◌*ℤ◌, Bool, true, false, not, ◌&&◌, List, [], ◌∷◌, map, length, Option, Some, None, refl, sym, ap, subst, ◌∙◌, arith, IsTrue}
+use Rattle.std.proofs.Common.{◌≡◌, ◌↔◌, ℕ, ◌+◌, ◌-◌, ◌<◌, ℤ, Bool, true, false, not, ◌&&◌, List, [], ◌∷◌, map, length, Option, Some, None, refl, sym, ap, subst, ◌∙◌, IsTrue}
 use Rattle.std.specs.Prelude.{int_le, slice_get}
 use Rattle.std.specs.Option.{option_map_or}
 use Rattle.std.specs.Bool.{Decides}
 use Rattle.std.specs.List.{filter, flat_map, range_with_len, AllByRecursion as Each}
-use Rattle.std.proofs.lemmas.Int.{ints}
 use Rattle.std.proofs.lemmas.Bool.Decides.{Decides-at, Decides-and, Decides-not, Decides-like}
 use Rattle.scr_spec.specs.Data.{Data}
 use Rattle.scr_spec.specs.declared.spec.Domain.{Domain}
-use Rattle.scr_spec.specs.declared.cond.Expr.{Expr}
-use Rattle.scr_spec.specs.declared.cond.Item.{Item}
 use Rattle.scr_spec.specs.declared.table.Row.{Row}
 use Rattle.scr_spec.specs.declared.table.Heading.{Heading}
 use Rattle.scr_spec.specs.declared.table.Heading.TheVariants.{Condition, Event as Events, Modes}
 use Rattle.scr_spec.specs.declared.table.Table.{Table}
-use Rattle.scr_spec.specs.Meaning.{Codes, side_value, item_value}
+use Rattle.scr_spec.specs.Meaning.{Codes}
 use Rattle.scr_spec.specs.Domains.{IsWithin, IsTyped, domain_of}
 use Rattle.scr_spec.specs.Cells.{holds_in}
 use Rattle.scr_spec.specs.Relations.{cell_value}
 use Rattle.scr_formula.specs.declared.formula.Formula.TheVariants.{False}
-use Rattle.scr_formula.specs.Truth.{terms_value, holds_at}
+use Rattle.scr_formula.specs.Truth.{holds_at}
 use Rattle.scr_formula.specs.Levels.{at_of, valuation_of}
-use Rattle.scr_formula.specs.Sides.{fixed_value, side_terms, side_constant}
-use Rattle.scr_formula.specs.Tables.{taken_in_new, value_constant}
-use Rattle.scr_formula.proofs.FormulaLaws.{holds_at-False, holds_at-Atom}
-use Rattle.scr_formula.proofs.Totals.{total, term_value, fold_total}
-use Rattle.scr_formula.proofs.SideTruth.{split_items, away_items}
-use Rattle.scr_formula.proofs.JoinTruth.{holds_at-both, holds_at-negation}
+use Rattle.scr_formula.specs.Tables.{taken_in_new}
+use Rattle.scr_formula.specs.Violations.{outside_formula}
+use Rattle.scr_formula.proofs.FormulaLaws.{holds_at-False}
+use Rattle.scr_formula.proofs.ViolationTruth.{holds_at-outside_formula}
 use Rattle.scr_goals.specs.declared.goal.GoalKind.TheVariants.{Range}
 use Rattle.scr_goals.specs.declared.goal.Goal.{Goal}
 use Rattle.scr_depend.specs.Related.{IsRelatedBy}
 use Rattle.scr_depend.specs.Meets.{IsJudgedAt}
 use Rattle.scr_goals.specs.Goals.{range_goal, range_goals, has_range, columns_in, changes_in, monitored_variables}
-use Rattle.scr_goals.specs.Formulas.{column_terms, at_least, at_most, outside_formula, violation, violated, table_goal_formula, HasNoSolution}
+use Rattle.scr_goals.specs.Formulas.{violation, violated, table_goal_formula, HasNoSolution}
 use Rattle.scr_goals.proofs.Bounds.{monitored_within}
 use Rattle.scr_goals.proofs.Lists.{each_like, each_flat, each_map, each_filter, each_range, chain, under}
-use Rattle.scr_goals.proofs.PairTruth.{same_test, always, int_le_tells, meets_below, false_is_true}
+use Rattle.scr_goals.proofs.PairTruth.{same_test, always, int_le_tells, false_is_true}
 use Rattle.scr_goals.proofs.Disjoint.{CoreTells, Told, HasNone, holds_at-held, over_change, over_states, one_less, change_goals, cell_within}
 
-side_added : (spec : Data) (s t : Codes) (p q : Bool) (e : Expr)
-    → total (term_value (valuation_of s t)) (side_terms false p q e) +ℤ side_constant spec e ≡ side_value spec (at_of p s t) (at_of q s t) e
-side_added spec s t p q e =
-    let f = λ (item : Item). item_value spec (at_of p s t) (at_of q s t) item in
-    let g = λ (item : Item). item.factor *ℤ fixed_value spec item.operand in
-    omega (arith, ints, fold_total g e.items, fold_total f e.items, split_items spec s t p q e.items)
-
-side_taken : (spec : Data) (s t : Codes) (p q : Bool) (e : Expr)
-    → total (term_value (valuation_of s t)) (side_terms true p q e) +ℤ side_value spec (at_of p s t) (at_of q s t) e ≡ side_constant spec e
-side_taken spec s t p q e =
-    let f = λ (item : Item). item_value spec (at_of p s t) (at_of q s t) item in
-    let g = λ (item : Item). item.factor *ℤ fixed_value spec item.operand in
-    omega (arith, ints, fold_total g e.items, fold_total f e.items, split_items spec s t p q e.items, away_items (valuation_of s t) p q e.items)
-
-column_added : (spec : Data) (s t : Codes) (p q : Bool) (o : Option Expr)
-    → total (term_value (valuation_of s t)) (option_map_or (side_terms false p q) o []) +ℤ option_map_or (side_constant spec) o (pos 0) ≡ option_map_or (side_value spec (at_of p s t) (at_of q s t)) o (pos 0)
-column_added spec s t p q None = refl
-column_added spec s t p q (Some e) = side_added spec s t p q e
-
-column_taken : (spec : Data) (s t : Codes) (p q : Bool) (o : Option Expr)
-    → total (term_value (valuation_of s t)) (option_map_or (side_terms true p q) o []) +ℤ option_map_or (side_value spec (at_of p s t) (at_of q s t)) o (pos 0) ≡ option_map_or (side_constant spec) o (pos 0)
-column_taken spec s t p q None = refl
-column_taken spec s t p q (Some e) = side_taken spec s t p q e
-
-value_added : (spec : Data) (table : Table) (row : Row) (column : ℕ) (s t : Codes) (h : Heading)
-    → total (term_value (valuation_of s t)) (column_terms false table column h) +ℤ value_constant spec table row column h ≡ cell_value spec table row column h s (at_of (taken_in_new h false) s t)
-value_added spec table row column s t Condition = column_added spec s t false false (slice_get table.values column)
-value_added spec table row column s t Events = column_added spec s t false true (slice_get table.values column)
-value_added spec table row column s t Modes = omega (arith, ints)
-
-value_taken : (spec : Data) (table : Table) (row : Row) (column : ℕ) (s t : Codes) (h : Heading)
-    → total (term_value (valuation_of s t)) (column_terms true table column h) +ℤ cell_value spec table row column h s (at_of (taken_in_new h false) s t) ≡ value_constant spec table row column h
-value_taken spec table row column s t Condition = column_taken spec s t false false (slice_get table.values column)
-value_taken spec table row column s t Events = column_taken spec s t false true (slice_get table.values column)
-value_taken spec table row column s t Modes = omega (arith, ints)
+within_tells : (d : Domain) (v : ℤ) → Decides (int_le d.lo v && int_le v d.hi) (IsWithin d v)
+within_tells d v = Decides-like _ (λ w. record { least = w.0; most = w.1 }) (λ w. (w.least, w.most)) (Decides-and _ _ (int_le_tells d.lo v) (int_le_tells v d.hi))
 
 -- the value that a cell gives, as a goal reads it
 abbrev pub value_of : Data → Table → Row → ℕ → Codes → Codes → ℤ
 value_of spec table row column s t = cell_value spec table row column table.heading s (at_of (taken_in_new table.heading false) s t)
 
-above_truth : (spec : Data) (table : Table) (row : Row) (column : ℕ) (lo : ℤ) (s t : Codes) → holds_at (valuation_of s t) (at_least spec table row column lo) ≡ int_le lo (value_of spec table row column s t)
-above_truth spec table row column lo s t =
-    let val = valuation_of s t in
-    let terms = column_terms true table column table.heading in
-    let v = value_of spec table row column s t in
-    let k = value_constant spec table row column table.heading in
-    let e : terms_value val terms +ℤ (lo -ℤ k) ≡ lo -ℤ v = omega (arith, ints, fold_total (term_value val) terms, value_taken spec table row column s t table.heading) in
-    holds_at-Atom _ _ ∙ meets_below (terms_value val terms +ℤ (lo -ℤ k)) lo v e
-
-below_truth : (spec : Data) (table : Table) (row : Row) (column : ℕ) (hi : ℤ) (s t : Codes) → holds_at (valuation_of s t) (at_most spec table row column hi) ≡ int_le (value_of spec table row column s t) hi
-below_truth spec table row column hi s t =
-    let val = valuation_of s t in
-    let terms = column_terms false table column table.heading in
-    let v = value_of spec table row column s t in
-    let k = value_constant spec table row column table.heading in
-    let e : terms_value val terms +ℤ (k -ℤ hi) ≡ v -ℤ hi = omega (arith, ints, fold_total (term_value val) terms, value_added spec table row column s t table.heading) in
-    holds_at-Atom _ _ ∙ meets_below (terms_value val terms +ℤ (k -ℤ hi)) v hi e
-
 -- the formula says that the value is outside
 pub outside_tells : (spec : Data) (table : Table) (row : Row) (column : ℕ) (d : Domain) (s t : Codes)
-    → Decides (holds_at (valuation_of s t) (outside_formula spec table row column d)) (IsWithin d (value_of spec table row column s t) → ⊥)
+    → Decides (holds_at (valuation_of s t) (outside_formula spec table false row column d)) (IsWithin d (value_of spec table row column s t) → ⊥)
 outside_tells spec table row column d s t =
     let v = value_of spec table row column s t in
-    Decides-at _ (not (int_le d.lo v && int_le v d.hi))
-    (holds_at-negation _ _ _ (holds_at-both _ (at_least spec table row column d.lo) (at_most spec table row column d.hi) _ _ (above_truth spec table row column d.lo s t) (below_truth spec table row column d.hi s t)))
-    (Decides-not _ (Decides-like _ (λ w. record { least = w.0; most = w.1 }) (λ w. (w.least, w.most)) (Decides-and _ _ (int_le_tells d.lo v) (int_le_tells v d.hi))))
+    Decides-at _ (not (int_le d.lo v && int_le v d.hi)) (holds_at-outside_formula spec table false row column d s t) (Decides-not _ (within_tells d v))
 
 pub none_some : {X : Type 0} {x : X} → None ≡ Some x → ⊥
 none_some e = cc
@@ -117,16 +59,14 @@ stable false P tell h = absurd (h (λ p. false_is_true (tell.1 p)))
 
 pub within_stable : (d : Domain) (v : ℤ) → ((IsWithin d v → ⊥) → ⊥) → IsWithin d v
 within_stable d v h =
-    stable (int_le d.lo v && int_le v d.hi) (IsWithin d v)
-    (Decides-like _ (λ w. record { least = w.0; most = w.1 }) (λ w. (w.least, w.most)) (Decides-and _ _ (int_le_tells d.lo v) (int_le_tells v d.hi)))
-    h
+    stable (int_le d.lo v && int_le v d.hi) (IsWithin d v) (within_tells d v) h
 
 -- the row's cell gives a value outside the domain
 abbrev IsOutside : Data → Table → ℕ → ℕ → Codes → Codes → Type 0
 IsOutside spec table row column s t = (r : Row) × (slice_get table.rows row ≡ Some r) × (IsWithin (domain_of spec table.variable) (value_of spec table r column s t) → ⊥)
 
 outside_found : (spec : Data) (table : Table) (row column : ℕ) (s t : Codes) (o : Option Row) → slice_get table.rows row ≡ o
-    → Decides (holds_at (valuation_of s t) (option_map_or (λ r. outside_formula spec table r column (domain_of spec table.variable)) o False)) (IsOutside spec table row column s t)
+    → Decides (holds_at (valuation_of s t) (option_map_or (λ r. outside_formula spec table false r column (domain_of spec table.variable)) o False)) (IsOutside spec table row column s t)
 outside_found spec table row column s t None e = ((λ h. absurd (false_is_true (sym (holds_at-False _) ∙ h))), (λ w. absurd (none_some (sym e ∙ w.1))))
 outside_found spec table row column s t (Some q) e =
     let d = domain_of spec table.variable in
