@@ -10,6 +10,6 @@ mod pair;
 
 pub use formula::goal_formula;
 pub use goal::{Goal, GoalKind};
-pub use law::{goals_decide, same_unbounded};
+pub use law::{goals_decide, goals_tell, same_unbounded};
 pub use list::goals;
 pub use pair::{change, pairs};
