@@ -16,7 +16,7 @@ mod violation;
 
 pub use cell::of_cell;
 pub use condition::of_cond;
-pub use event::of_event;
+pub use event::{keeps_code, of_event};
 pub use formula::{Formula, Linear, Op, Term};
 pub use frozen::only_changed;
 pub use level::level_at;

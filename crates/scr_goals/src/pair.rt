@@ -8,25 +8,29 @@ ghost use Rattle.scr_formula.specs.Events.{same_code};
 ghost use Rattle.scr_depend.specs.Graphs.{is_among};
 ghost use Rattle.scr_depend.specs.Results.{IsOrderOf};
 ghost use Rattle.scr_depend.specs.Related.{bound_of};
-ghost use Rattle.scr_goals.specs.Pairs.{apart, at_most_above, bounded_change, change_formula, need_formulas, pair_formulas, ArePairs, TellRelated, AreOver};
+ghost use Rattle.scr_goals.specs.Pairs.{at_most_above, bounded_change, change_formula, need_formulas, pair_formulas, ArePairs, TellRelated, AreOver};
 
 use scr_depend::{Order, need};
-use scr_formula::{Formula, Linear, Op, Term, level_at, of_own, of_relation};
+use scr_formula::{Formula, Linear, Op, Term, keeps_code, level_at, of_own, of_relation};
 use scr_spec::{Heading, Spec};
 use scr_text::NoMemory;
 use sqlite_items::Items;
 use std::alloc::Global;
 
-/// One level of the variable less the other, with a constant.
-fn levels_apart(
-    alloc: Global,
-    x: usize,
-    new: bool,
-    constant: i64,
-    op: Op,
-) -> Result<Formula, NoMemory>
+/// The variable has another code in the new state.
+fn differs(alloc: Global, x: usize) -> Result<Formula, NoMemory>
     requires { x < 128 }
-    ensures { IfOk result (λ f. f ≡ apart new x constant op) }
+    ensures { IfOk result (λ f. f ≡ Not (same_code x)) }
+{
+    let same = keeps_code(alloc, x)?;
+    Formula::negation(alloc, same)
+}
+
+/// One level of the variable is at most k above the other.
+fn at_most_above(alloc: Global, new: bool, x: usize, k: i64) -> Result<Formula, NoMemory>
+    requires number { x < 128 }
+    requires narrow { unsigned_abs k ≤ 1000000 }
+    ensures { IfOk result (λ f. f ≡ at_most_above new x k) }
 {
     let mut terms = Items::new(alloc);
     terms.push(Term {
@@ -39,27 +43,9 @@ fn levels_apart(
     })?;
     Ok(Formula::Atom(Linear {
         terms,
-        constant,
-        op,
+        constant: -k,
+        op: Op::Le,
     }))
-}
-
-/// The variable has another code in the new state.
-fn differs(alloc: Global, x: usize) -> Result<Formula, NoMemory>
-    requires { x < 128 }
-    ensures { IfOk result (λ f. f ≡ Not (same_code x)) }
-{
-    let same = levels_apart(alloc, x, true, 0, Op::Eq)?;
-    Formula::negation(alloc, same)
-}
-
-/// One level of the variable is at most k above the other.
-fn at_most_above(alloc: Global, new: bool, x: usize, k: i64) -> Result<Formula, NoMemory>
-    requires number { x < 128 }
-    requires narrow { unsigned_abs k ≤ 1000000 }
-    ensures { IfOk result (λ f. f ≡ at_most_above new x k) }
-{
-    levels_apart(alloc, x, new, -k, Op::Le)
 }
 
 fn bounded_change(alloc: Global, x: usize, bound: Option<i64>) -> Result<Formula, NoMemory>
