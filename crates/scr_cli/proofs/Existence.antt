@@ -10,8 +10,8 @@ use Rattle.scr_reader.proofs.ReadableTexts.{reads_readable}
 use Rattle.scr_types.specs.Texts.{Spells, unread}
 use Rattle.scr_types.proofs.Readings.{one_reading}
 use Rattle.scr_types.proofs.Sound.{sound}
-use Rattle.scr_depend.specs.Laws.{OrderOrCycle}
-use Rattle.scr_verdict.specs.Laws.{SomeVerdict}
+use Rattle.scr_depend.proofs.SomeCycle.{order_or_cycle}
+use Rattle.scr_verdict.proofs.SomeVerdict.{some_verdict}
 use Rattle.scr_report.specs.Faults.{refusal_text, text_fault}
 use Rattle.scr_cli.specs.declared.status.Status.{Status}
 use Rattle.scr_cli.specs.declared.status.Status.TheVariants.{SpecRefused}
@@ -27,22 +27,22 @@ spelled_sound text spec s =
     subst IsSound (sym s.resolves.parts) (sound s.draft s.resolves.last s.resolves.resolves (reads_readable text s.draft s.reads))
 
 -- a specification has a report
-some_report : OrderOrCycle → SomeVerdict → (spec : Data) (limit : ℕ) → IsSound spec → IsFront (Reports spec limit) []
-some_report cycles verdicts spec limit keeps none =
-    cycles.some spec keeps
-    (λ order is. verdicts.all_some spec order limit (λ list are. none _ _ (ordered order list is are)))
+some_report : (spec : Data) (limit : ℕ) → IsSound spec → IsFront (Reports spec limit) []
+some_report spec limit keeps none =
+    order_or_cycle.some spec keeps
+    (λ order is. some_verdict.all_some spec order limit (λ list are. none _ _ (ordered order list is are)))
     (λ cycle told. none _ _ (circular cycle told))
 
-some_text : OrderOrCycle → SomeVerdict → (limit : ℕ) (text : List ℕ) → IsFront (ChecksText limit text) []
-some_text cycles verdicts limit text none =
+some_text : (limit : ℕ) (text : List ℕ) → IsFront (ChecksText limit text) []
+some_text limit text none =
     one_reading.some text
-    (λ spec spelled. some_report cycles verdicts spec limit (spelled_sound text spec spelled) (λ bytes status report. none bytes status (reports spec spelled report)))
+    (λ spec spelled. some_report spec limit (spelled_sound text spec spelled) (λ bytes status report. none bytes status (reports spec spelled report)))
     (λ refusal is. none (refusal_text refusal) SpecRefused (refused refusal is))
 
 -- a file that is not there is answered with nothing, and each text has an answer
-pub some_check : OrderOrCycle → SomeVerdict → (limit : ℕ) (held : Option (List ℕ)) → IsFront (Checks limit held) []
-some_check cycles verdicts limit None none = none [] _ (refl, refl)
-some_check cycles verdicts limit (Some text) none = some_text cycles verdicts limit text none
+pub some_check : (limit : ℕ) (held : Option (List ℕ)) → IsFront (Checks limit held) []
+some_check limit None none = none [] _ (refl, refl)
+some_check limit (Some text) none = some_text limit text none
 
 -- a text above the limit is refused as a whole
 pub too_long_refused : (limit : ℕ) (held : Option (List ℕ)) → IsLoaded TEXT_LIMIT held TooLong → Checks limit held (text_fault 0 kind.Limit) SpecRefused

@@ -3,11 +3,11 @@ use Rattle.std.proofs.Common.{◌≡◌, ℕ, List, [], ◌++◌, Option, None, 
 use Rattle.scr_spec.specs.Data.{Data}
 use Rattle.scr_depend.specs.Dependencies.{graph_of}
 use Rattle.scr_depend.specs.Orders.{IsOrder}
-use Rattle.scr_depend.specs.Laws.{OrderOrCycle}
 use Rattle.scr_depend.proofs.Dependent.{one_order}
+use Rattle.scr_depend.proofs.SomeCycle.{order_or_cycle}
 use Rattle.scr_verdict.specs.declared.verdict.Verdict.{Verdict}
 use Rattle.scr_verdict.specs.Verdicts.{AreVerdicts}
-use Rattle.scr_verdict.specs.Laws.{SomeVerdict}
+use Rattle.scr_verdict.proofs.SomeVerdict.{some_verdict}
 use Rattle.scr_types.specs.Texts.{Spells}
 use Rattle.scr_types.proofs.Readings.{one_reading}
 use Rattle.scr_report.specs.Faults.{refusal_text}
@@ -22,39 +22,39 @@ use Rattle.scr_cli.specs.Answers.{word_at, FormAnswers, OneAnswer}
 use Rattle.scr_cli.proofs.Existence.{some_check}
 
 -- one order and one list of verdicts, or one cycle
-report_once : OrderOrCycle → SomeVerdict → (spec : Data) (limit : ℕ) (x y : List ℕ) (i j : Status) → Reports spec limit x i → Reports spec limit y j → (x ≡ y) × (i ≡ j)
-report_once cycles verdicts spec limit x y i j (ordered a v is are) (ordered b w also too) =
+report_once : (spec : Data) (limit : ℕ) (x y : List ℕ) (i j : Status) → Reports spec limit x i → Reports spec limit y j → (x ≡ y) × (i ≡ j)
+report_once spec limit x y i j (ordered a v is are) (ordered b w also too) =
     let order : a ≡ b = one_order.once spec a b is also in
-    let list : v ≡ w = verdicts.all_once spec b limit v w (subst (λ l. AreVerdicts spec l limit v) order are) too in
+    let list : v ≡ w = some_verdict.all_once spec b limit v w (subst (λ l. AreVerdicts spec l limit v) order are) too in
     (ap₂ (λ o l. order_text spec o ++ lines_text spec l) order list, ap verdicts_status list)
-report_once cycles verdicts spec limit x y i j (ordered a v is are) (circular cycle told) = absurd (cycles.apart spec a cycle is told)
-report_once cycles verdicts spec limit x y i j (circular cycle told) (ordered a v is are) = absurd (cycles.apart spec a cycle is told)
-report_once cycles verdicts spec limit x y i j (circular a told) (circular b also) = (ap (cycle_text spec) (cycles.one_cycle spec a b told.told also.told), refl)
+report_once spec limit x y i j (ordered a v is are) (circular cycle told) = absurd (order_or_cycle.apart spec a cycle is told)
+report_once spec limit x y i j (circular cycle told) (ordered a v is are) = absurd (order_or_cycle.apart spec a cycle is told)
+report_once spec limit x y i j (circular a told) (circular b also) = (ap (cycle_text spec) (order_or_cycle.one_cycle spec a b told.told also.told), refl)
 
-text_once : OrderOrCycle → SomeVerdict → (limit : ℕ) (text x y : List ℕ) (i j : Status) → ChecksText limit text x i → ChecksText limit text y j → (x ≡ y) × (i ≡ j)
-text_once cycles verdicts limit text x y i j (reports spec spelled report) (reports other also second) =
+text_once : (limit : ℕ) (text x y : List ℕ) (i j : Status) → ChecksText limit text x i → ChecksText limit text y j → (x ≡ y) × (i ≡ j)
+text_once limit text x y i j (reports spec spelled report) (reports other also second) =
     let same : spec ≡ other = one_reading.once text spec other spelled also in
     let first : Reports other limit x i = subst (λ s. Reports s limit x i) same report in
-    report_once cycles verdicts other limit x y i j first second
-text_once cycles verdicts limit text x y i j (reports spec spelled report) (refused refusal is) = absurd (one_reading.apart text spec refusal spelled is)
-text_once cycles verdicts limit text x y i j (refused refusal is) (reports spec spelled report) = absurd (one_reading.apart text spec refusal spelled is)
-text_once cycles verdicts limit text x y i j (refused refusal is) (refused other also) = (ap refusal_text (one_reading.one_refusal text refusal other is also), refl)
+    report_once other limit x y i j first second
+text_once limit text x y i j (reports spec spelled report) (refused refusal is) = absurd (one_reading.apart text spec refusal spelled is)
+text_once limit text x y i j (refused refusal is) (reports spec spelled report) = absurd (one_reading.apart text spec refusal spelled is)
+text_once limit text x y i j (refused refusal is) (refused other also) = (ap refusal_text (one_reading.one_refusal text refusal other is also), refl)
 
-file_once : OrderOrCycle → SomeVerdict → (limit : ℕ) (held : Option (List ℕ)) (x y : List ℕ) (i j : Status) → Checks limit held x i → Checks limit held y j → (x ≡ y) × (i ≡ j)
-file_once cycles verdicts limit None x y i j a b = (a.0 ∙ sym b.0, a.1 ∙ sym b.1)
-file_once cycles verdicts limit (Some text) x y i j a b = text_once cycles verdicts limit text x y i j a b
+file_once : (limit : ℕ) (held : Option (List ℕ)) (x y : List ℕ) (i j : Status) → Checks limit held x i → Checks limit held y j → (x ≡ y) × (i ≡ j)
+file_once limit None x y i j a b = (a.0 ∙ sym b.0, a.1 ∙ sym b.1)
+file_once limit (Some text) x y i j a b = text_once limit text x y i j a b
 
-form_once : OrderOrCycle → SomeVerdict → (f : Option Form) (words : List (List ℕ)) (files : Files) (x y : List ℕ) (i j : Status)
+form_once : (f : Option Form) (words : List (List ℕ)) (files : Files) (x y : List ℕ) (i j : Status)
     → FormAnswers f words files x i → FormAnswers f words files y j → (x ≡ y) × (i ≡ j)
-form_once cycles verdicts None words files x y i j a b = (a.0 ∙ sym b.0, a.1 ∙ sym b.1)
-form_once cycles verdicts (Some (form.Check limit)) words files x y i j a b = file_once cycles verdicts limit (files (word_at 1 words)) x y i j a b
+form_once None words files x y i j a b = (a.0 ∙ sym b.0, a.1 ∙ sym b.1)
+form_once (Some (form.Check limit)) words files x y i j a b = file_once limit (files (word_at 1 words)) x y i j a b
 
-some_form : OrderOrCycle → SomeVerdict → (f : Option Form) (words : List (List ℕ)) (files : Files) → IsFront (FormAnswers f words files) []
-some_form cycles verdicts None words files none = none _ _ (refl, refl)
-some_form cycles verdicts (Some (form.Check limit)) words files none = some_check cycles verdicts limit (files (word_at 1 words)) none
+some_form : (f : Option Form) (words : List (List ℕ)) (files : Files) → IsFront (FormAnswers f words files) []
+some_form None words files none = none _ _ (refl, refl)
+some_form (Some (form.Check limit)) words files none = some_check limit (files (word_at 1 words)) none
 
-pub one_answer : OrderOrCycle → SomeVerdict → OneAnswer
-one_answer cycles verdicts = record {
-  once = λ words files x y i j a b. form_once cycles verdicts (form_of words) words files x y i j a b;
-  some = λ words files. some_form cycles verdicts (form_of words) words files;
+pub one_answer : OneAnswer
+one_answer = record {
+  once = λ words files x y i j a b. form_once (form_of words) words files x y i j a b;
+  some = λ words files. some_form (form_of words) words files;
 }

@@ -10,6 +10,7 @@ use scr_text::NoMemory;
 use std::alloc::Global;
 
 /// The command `check`, with the limit on the distinct nodes of each table.
+#[derive(Drop)]
 pub(crate) struct Check {
     pub(crate) nodes: u32,
     ghost limited: { nodes ≤ 40000 },

@@ -58,8 +58,8 @@ fn dispatch<S: Shelf, K: Sink>(
     match parse(words) {
         None => usage(shelf, out),
         Some(Form::Check { limit }) => {
-            let check = Check { nodes: limit };
-            respond(&check, alloc, words[1].as_str(), shelf, out)
+            let job = Check { nodes: limit };
+            respond(&job, alloc, words[1].as_str(), shelf, out)
         }
     }
 }
