@@ -71,9 +71,8 @@ pub(crate) fn push_lines(
 pub(crate) fn push_yes_lines(out: &mut Vec<u8>, spec: &Spec) -> Result<(), NoMemory>
     ensures { OnOk result (out.new.items ≡ out.old.items ++ answer.lines_text (data_of spec.now) (answer.all_yes (data_of spec.now))) }
 {
-    let verdict = Verdict::Yes;
     for table in spec.tables.as_slice() {
-        push_verdict(out, spec, table.variable, &verdict)?;
+        push_verdict(out, spec, table.variable, &Verdict::Yes)?;
     }
     Ok(())
 }
