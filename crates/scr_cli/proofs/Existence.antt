@@ -1,5 +1,5 @@
 -- Each file has an answer.
-use Rattle.std.proofs.Common.{◌≡◌, inl, ℕ, List, [], ◌++◌, Option, None, Some, Result, Ok, Err, refl, sym, subst}
+use Rattle.std.proofs.Common.{◌≡◌, inl, ℕ, List, [], Option, None, Some, Result, Ok, Err, refl, sym, subst}
 use Rattle.std.specs.Prelude.{IfOk}
 use Rattle.scr_text.specs.declared.memory.NoMemory.{NoMemory}
 use Rattle.scr_spec.specs.Data.{Data}

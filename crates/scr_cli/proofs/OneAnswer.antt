@@ -1,14 +1,10 @@
 -- Words and files have one answer.
 use Rattle.std.proofs.Common.{◌≡◌, ℕ, List, [], ◌++◌, Option, None, Some, refl, sym, ap, ap₂, subst, ◌∙◌}
 use Rattle.scr_spec.specs.Data.{Data}
-use Rattle.scr_depend.specs.Dependencies.{graph_of}
-use Rattle.scr_depend.specs.Orders.{IsOrder}
 use Rattle.scr_depend.proofs.Dependent.{one_order}
 use Rattle.scr_depend.proofs.SomeCycle.{order_or_cycle}
-use Rattle.scr_verdict.specs.declared.verdict.Verdict.{Verdict}
 use Rattle.scr_verdict.specs.Verdicts.{AreVerdicts}
 use Rattle.scr_verdict.proofs.SomeVerdict.{some_verdict}
-use Rattle.scr_types.specs.Texts.{Spells}
 use Rattle.scr_types.proofs.Readings.{one_reading}
 use Rattle.scr_report.specs.Faults.{refusal_text}
 use Rattle.scr_report.specs.Reports.{order_text, cycle_text}

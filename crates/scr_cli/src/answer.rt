@@ -3,7 +3,6 @@ ghost use Rattle.std.specs.Prelude.{◌≡◌, ◌≤◌, ◌++◌, ℕ, List, I
 ghost use Rattle.scr_spec.specs.Shown.{data_of};
 ghost use Rattle.scr_reader.specs.Text.{TextReads};
 ghost use Rattle.scr_reader.specs.Readable.{IsReadable};
-ghost use Rattle.scr_types.specs.Texts.{Spells};
 ghost use Rattle.scr_report.specs.Faults.{text_fault, type_fault};
 ghost use Rattle.scr_report.specs.Reports.{order_text, cycle_text};
 ghost use Rattle.scr_cli.specs.Check.{Reports, ChecksText, lines_text, all_yes, verdicts_status};
@@ -116,11 +115,7 @@ fn of_draft(alloc: Global, draft: &Draft, limit: u32) -> Result<(Vec<u8>, Status
 }
 
 /// What `check` writes for a text, and how it ends.
-pub(crate) fn answer(
-    alloc: Global,
-    text: &[u8],
-    limit: u32,
-) -> Result<(Vec<u8>, Status), NoMemory>
+pub(crate) fn answer(alloc: Global, text: &[u8], limit: u32) -> Result<(Vec<u8>, Status), NoMemory>
     requires { limit ≤ 40000 }
     ensures exact { IfOk result (λ r. ChecksText limit text.now r.0.items r.1) }
     ensures status { IfOk result (λ r. IsTrue (is_own r.1)) }
