@@ -1,12 +1,6 @@
-pub mod Plain
-pub mod Least
-pub mod Judged
-pub mod Columns
-pub mod Steps
-pub mod Names
-pub mod Printed
+pub mod Numbers
+pub mod Lines
 pub mod EndsLemmas
 pub mod Existence
 pub mod Texts
-pub mod OneReport
 pub mod OneAnswer

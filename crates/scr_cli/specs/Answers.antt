@@ -23,7 +23,7 @@ UsageAnswers files bytes status = (bytes ≡ usage_text) × (status ≡ Usage)
 -- the answers of a form
 abbrev pub FormAnswers : Option Form → List (List ℕ) → Answer
 FormAnswers None words = UsageAnswers
-FormAnswers (Some Check) words = CheckAnswers (word_at 1 words)
+FormAnswers (Some (Check limit)) words = CheckAnswers limit (word_at 1 words)
 
 -- the answers to the words
 abbrev pub Answers : List (List ℕ) → Answer
@@ -32,17 +32,17 @@ Answers words = FormAnswers (form_of words) words
 -- the shelf holds each file that the words reach
 abbrev pub HoldsFiles : Contents → Option Form → List (List ℕ) → Type 0
 HoldsFiles contents None words = ⊤
-HoldsFiles contents (Some Check) words = Holds contents (word_at 1 words)
+HoldsFiles contents (Some (Check limit)) words = Holds contents (word_at 1 words)
 
 -- the words begin no file
 abbrev pub begins_none : Option Form → Bool
 begins_none None = true
-begins_none (Some Check) = false
+begins_none (Some (Check limit)) = false
 
 -- the words read one file whole before they write
 abbrev pub reads_first : Option Form → Bool
 reads_first None = false
-reads_first (Some Check) = true
+reads_first (Some (Check limit)) = true
 
 -- words and files have one answer, and never none
 pub record OneAnswer : Type 0 where

@@ -1,41 +1,67 @@
 -- What `check` answers.
-use Rattle.std.specs.Prelude.{◌≡◌, ℕ, true, false, List, [], ◌∷◌, Option, None, Some, codes}
+use Rattle.std.specs.Prelude.{◌≡◌, ℕ, Bool, true, false, List, [], ◌++◌, map, Option, None, Some, if◌then◌else◌}
+use Rattle.std.specs.List.{flat_map, list_any, zip}
 use Rattle.scr_spec.specs.Data.{Data}
 use Rattle.scr_spec.specs.declared.table.Table.{Table}
 use Rattle.scr_types.specs.Texts.{Spells, Refusal, IsRefused}
+use Rattle.scr_depend.specs.Dependencies.{graph_of}
+use Rattle.scr_depend.specs.Orders.{IsOrder}
+use Rattle.scr_depend.specs.Results.{HasCycle}
+use Rattle.scr_verdict.specs.declared.verdict.Verdict.{Verdict}
+use Rattle.scr_verdict.specs.declared.verdict.Verdict.TheVariants as verdict
+use Rattle.scr_verdict.specs.Verdicts.{AreVerdicts}
 use Rattle.scr_report.specs.Faults.{refusal_text}
+use Rattle.scr_report.specs.Reports.{order_text, cycle_text, verdict_text}
 use Rattle.scr_cli.specs.declared.status.Status.{Status}
-use Rattle.scr_cli.specs.declared.status.Status.TheVariants.{SpecRefused, ReadFault}
-use Rattle.scr_cli.specs.declared.verdict.Verdict.{Verdict}
-use Rattle.scr_cli.specs.Judgeable.{is_judgeable}
-use Rattle.scr_cli.specs.Verdict.{IsVerdict}
-use Rattle.scr_cli.specs.Report.{report_text, verdict_status}
+use Rattle.scr_cli.specs.declared.status.Status.TheVariants.{Done, Findings, Undecided, SpecRefused, ReadFault}
 use Rattle.scr_cli.specs.Ends.{Answer}
 
-abbrev pub unbuilt_text : List ℕ
-unbuilt_text = codes "line 0: unbuilt\n"
+-- ---- verdicts
 
--- the report on the one table of the specification, by the table's verdict
-pub record IsReport (spec : Data) (bytes : List ℕ) (status : Status) : Type 0 where
-  pub table : Table
-  pub verdict : Verdict
-  pub only : spec.tables ≡ table ∷ []
-  pub judged : IsVerdict spec table verdict
-  pub text : bytes ≡ report_text spec table verdict
-  pub ends : status ≡ verdict_status verdict
+abbrev pub is_no : Verdict → Bool
+is_no verdict.Yes = false
+is_no (verdict.No goal w) = true
+is_no verdict.Undecided = false
 
--- of a text: the report on the specification that it spells, one line where that is not judged so far, or the line on
--- what is wrong with the text
-pub data ChecksText : List ℕ → List ℕ → Status → Type 0 where
-  reports : {text bytes : List ℕ} {status : Status} (spec : Data) → Spells text spec → is_judgeable spec ≡ true → IsReport spec bytes status
-      → ChecksText text bytes status
-  unbuilt : {text : List ℕ} (spec : Data) → Spells text spec → is_judgeable spec ≡ false → ChecksText text unbuilt_text SpecRefused
-  refused : {text : List ℕ} (refusal : Refusal) → IsRefused text refusal → ChecksText text (refusal_text refusal) SpecRefused
+abbrev pub is_undecided : Verdict → Bool
+is_undecided verdict.Yes = false
+is_undecided (verdict.No goal w) = false
+is_undecided verdict.Undecided = true
+
+-- how a run with these verdicts ends: a no counts before what is undecided
+abbrev pub verdicts_status : List Verdict → Status
+verdicts_status verdicts = if list_any is_no verdicts then Findings else if list_any is_undecided verdicts then Undecided else Done
+
+-- a yes on each table
+abbrev pub all_yes : Data → List Verdict
+all_yes spec = map (λ t. verdict.Yes) spec.tables
+
+-- the line on a table
+abbrev pub line_text : Data → Table × Verdict → List ℕ
+line_text spec (table, verdict) = verdict_text spec table.variable verdict
+
+-- a line on each table, in the order of the text
+abbrev pub lines_text : Data → List Verdict → List ℕ
+lines_text spec verdicts = flat_map (line_text spec) (zip spec.tables verdicts)
+
+-- ---- answers
+
+-- of a specification: its order and the verdicts on its tables, or its cycle
+pub data Reports : Data → ℕ → List ℕ → Status → Type 0 where
+  ordered : {spec : Data} {limit : ℕ} (order : List ℕ) (verdicts : List Verdict) → IsOrder (graph_of spec) order → AreVerdicts spec order limit verdicts
+      → Reports spec limit (order_text spec order ++ lines_text spec verdicts) (verdicts_status verdicts)
+  circular : {spec : Data} {limit : ℕ} (cycle : List ℕ) → HasCycle (graph_of spec) cycle → Reports spec limit (cycle_text spec cycle) Findings
+
+-- of a text: the report on the specification that it spells, or the line on what is wrong with it
+pub data ChecksText : ℕ → List ℕ → List ℕ → Status → Type 0 where
+  reports : {limit : ℕ} {text bytes : List ℕ} {status : Status} (spec : Data) → Spells text spec → Reports spec limit bytes status
+      → ChecksText limit text bytes status
+  refused : {limit : ℕ} {text : List ℕ} (refusal : Refusal) → IsRefused text refusal → ChecksText limit text (refusal_text refusal) SpecRefused
 
 -- of a file, if it is there
-abbrev pub Checks : Option (List ℕ) → List ℕ → Status → Type 0
-Checks None bytes status = (bytes ≡ []) × (status ≡ ReadFault)
-Checks (Some text) bytes status = ChecksText text bytes status
+abbrev pub Checks : ℕ → Option (List ℕ) → List ℕ → Status → Type 0
+Checks limit None bytes status = (bytes ≡ []) × (status ≡ ReadFault)
+Checks limit (Some text) bytes status = ChecksText limit text bytes status
 
-abbrev pub CheckAnswers : List ℕ → Answer
-CheckAnswers name files = Checks (files name)
+abbrev pub CheckAnswers : ℕ → List ℕ → Answer
+CheckAnswers limit name files = Checks limit (files name)

@@ -1,8 +1,4 @@
 pub mod Number
-pub mod Judgeable
-pub mod Verdict
-pub mod Search
-pub mod Report
 pub mod Ends
 pub mod Check
 pub mod Load

@@ -1,4 +1,5 @@
-//! The command `check`: the verdict on the table of a specification.
+//! The command `check`: the order and the verdict on each table of a specification, or its cycle.
+ghost use Rattle.std.specs.Prelude.{◌≤◌};
 
 use crate::answer::{answer, refused};
 use crate::job::Job;
@@ -8,14 +9,18 @@ use scr_reader::{TEXT_LIMIT, TextKind};
 use scr_text::NoMemory;
 use std::alloc::Global;
 
-/// The command `check`.
-pub(crate) struct Check;
+/// The command `check`, with the limit on the distinct nodes of each table.
+#[derive(Drop)]
+pub(crate) struct Check {
+    pub(crate) nodes: u32,
+    ghost limited: { nodes ≤ 40000 },
+}
 
 impl Job for Check {
     ghost use Rattle.scr_cli.specs.Check.{Checks};
     ghost use Rattle.scr_reader.specs.declared.text.TheConstants.{TEXT_LIMIT};
 
-    ghost answers = { λ _. Checks };
+    ghost answers = { λ job. Checks job.nodes };
 
     ghost limit = { λ _. TEXT_LIMIT };
 
@@ -25,7 +30,7 @@ impl Job for Check {
 
     fn answer(&self, alloc: Global, file: Loaded) -> Result<(Vec<u8>, Status), NoMemory> {
         match file {
-            Loaded::Whole(text) => answer(alloc, text.as_slice()),
+            Loaded::Whole(text) => answer(alloc, text.as_slice(), self.nodes),
             Loaded::TooLong => refused(alloc, 0, TextKind::Limit),
         }
     }

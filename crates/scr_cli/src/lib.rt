@@ -5,13 +5,10 @@ mod answer;
 mod check;
 mod form;
 mod job;
-mod judge;
-mod judgeable;
 mod load;
-mod report;
 mod status;
 mod top;
-mod verdict;
+mod verdicts;
 
 pub use form::Form;
 pub use status::Status;

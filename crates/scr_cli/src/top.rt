@@ -57,7 +57,10 @@ fn dispatch<S: Shelf, K: Sink>(
 {
     match parse(words) {
         None => usage(shelf, out),
-        Some(Form::Check) => respond(&Check, alloc, words[1].as_str(), shelf, out),
+        Some(Form::Check { limit }) => {
+            let job = Check { nodes: limit };
+            respond(&job, alloc, words[1].as_str(), shelf, out)
+        }
     }
 }
 
