@@ -15,5 +15,5 @@ pub use checked::Checked;
 pub use closure::need;
 pub use fault::DependFault;
 pub use graph::ReadList;
-pub use law::{one_order, whole_graph};
+pub use law::{one_order, order_or_cycle, whole_graph};
 pub use order::{Order, order_of};
