@@ -93,7 +93,7 @@ fn reads_other_ends_of_lines(rt: HostRuntime) -> Result<(), Fail> {
 #[test]
 fn refuses_bytes_that_are_no_text(rt: HostRuntime) -> Result<(), Fail> {
     let (status, written) = check(rt.alloc(), b"\x00\xff\xfe")?;
-    assert_eq!(rt; written.as_slice(), b"line 1: byte\n");
+    assert_eq!(rt; written.as_slice(), b"line 1: byte\n".as_slice());
     assert_eq!(rt; status, Status::SpecRefused);
     Ok(())
 }
@@ -105,7 +105,7 @@ fn keeps_the_limit_of_a_text(rt: HostRuntime) -> Result<(), Fail> {
     assert_eq!(rt; written.as_slice(), REPORT);
     assert_eq!(rt; status, Status::Done);
     let (status, written) = check(alloc, text_of_length(alloc, 1_048_577)?.as_slice())?;
-    assert_eq!(rt; written.as_slice(), b"line 0: limit\n");
+    assert_eq!(rt; written.as_slice(), b"line 0: limit\n".as_slice());
     assert_eq!(rt; status, Status::SpecRefused);
     Ok(())
 }
