@@ -3,6 +3,7 @@
 
 mod faults;
 mod reports;
+mod variables;
 
 pub use faults::{push_text_fault, push_type_fault};
 pub use reports::{push_cycle, push_order, push_verdict};

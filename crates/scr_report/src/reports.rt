@@ -1,12 +1,15 @@
 //! The lines on a specification that was checked.
-ghost use Rattle.std.specs.Prelude.{◌≡◌, ◌++◌, MatchResult};
+ghost use Rattle.std.specs.Prelude.{◌≡◌, ◌++◌, IfOk, MatchResult, OnOk, string_bytes};
 ghost use Rattle.scr_spec.specs.Shown.{data_of};
 ghost use Rattle.scr_report.specs.Reports as text;
 
+use crate::variables::{name_of, push_names, push_reading};
 use scr_depend::Order;
+use scr_goals::{Goal, GoalKind};
 use scr_spec::Spec;
 use scr_text::NoMemory;
-use scr_verdict::Verdict;
+use scr_verdict::{Verdict, Witness};
+use std::alloc::Global;
 
 /// Appends the line on the order of evaluation: `order:` and each name after a space. After a fault
 /// `out` is unchanged.
@@ -14,7 +17,11 @@ pub fn push_order(out: &mut Vec<u8>, spec: &Spec, order: &Order) -> Result<(), N
     ensures { MatchResult result (λ _. out.new.items ≡ out.old.items ++ text.order_text (data_of spec.now) order.now.list)
         (λ _. out.new.items ≡ out.old.items) }
 {
-    Err(NoMemory)
+    let mut line = Vec::from_slice(*out.allocator(), b"order:")?;
+    push_names(&mut line, spec, order.list.as_slice())?;
+    line.push(b'\n')?;
+    out.extend_from_slice(line.as_slice())?;
+    Ok(())
 }
 
 /// Appends the line on variables that read each other in a circle: `circular:` and each name after a
@@ -23,7 +30,55 @@ pub fn push_cycle(out: &mut Vec<u8>, spec: &Spec, cycle: &[usize]) -> Result<(),
     ensures { MatchResult result (λ _. out.new.items ≡ out.old.items ++ text.cycle_text (data_of spec.now) cycle.now)
         (λ _. out.new.items ≡ out.old.items) }
 {
-    Err(NoMemory)
+    let mut line = Vec::from_slice(*out.allocator(), b"circular:")?;
+    push_names(&mut line, spec, cycle)?;
+    line.push(b'\n')?;
+    out.extend_from_slice(line.as_slice())?;
+    Ok(())
+}
+
+// ---- verdicts
+
+/// Where a goal fails, by its row and its columns.
+fn place_text(alloc: Global, goal: &Goal) -> Result<String, NoMemory>
+    ensures { IfOk result (λ place. string_bytes place ≡ text.place_text goal.now.kind goal.now) }
+{
+    let row = goal.row;
+    let first = goal.first;
+    let second = goal.second;
+    match goal.kind {
+        GoalKind::Disjoint => {
+            Ok(format!(in alloc; "no disjoint row {row} columns {first} {second}:")?)
+        }
+        GoalKind::Cover => Ok(format!(in alloc; "no cover row {row}:")?),
+        GoalKind::Range => Ok(format!(in alloc; "no range row {row} column {first}:")?),
+    }
+}
+
+/// The readings of a witness.
+fn push_witness(out: &mut Vec<u8>, spec: &Spec, witness: &Witness) -> Result<(), NoMemory>
+    ensures { OnOk result (out.new.items ≡ out.old.items ++ text.witness_text (data_of spec.now) witness.now) }
+{
+    for reading in witness.readings.as_slice() {
+        push_reading(out, spec, reading)?;
+    }
+    Ok(())
+}
+
+/// What is said of a table.
+fn push_outcome(out: &mut Vec<u8>, spec: &Spec, verdict: &Verdict) -> Result<(), NoMemory>
+    ensures { OnOk result (out.new.items ≡ out.old.items ++ text.outcome_text (data_of spec.now) verdict.now) }
+{
+    match verdict {
+        Verdict::Yes => out.extend_from_slice(b"yes")?,
+        Verdict::No(goal, witness) => {
+            let place = place_text(*out.allocator(), goal)?;
+            out.extend_from_slice(place.as_bytes())?;
+            push_witness(out, spec, witness)?;
+        }
+        Verdict::Undecided => out.extend_from_slice(b"undecided")?,
+    }
+    Ok(())
 }
 
 /// Appends the line on the table of a variable: `table X: yes`, `table X: undecided`, or what is
@@ -37,5 +92,11 @@ pub fn push_verdict(
     ensures { MatchResult result (λ _. out.new.items ≡ out.old.items ++ text.verdict_text (data_of spec.now) v verdict.now)
         (λ _. out.new.items ≡ out.old.items) }
 {
-    Err(NoMemory)
+    let mut line = Vec::from_slice(*out.allocator(), b"table ")?;
+    line.extend_from_slice(name_of(spec, v))?;
+    line.extend_from_slice(b": ")?;
+    push_outcome(&mut line, spec, verdict)?;
+    line.push(b'\n')?;
+    out.extend_from_slice(line.as_slice())?;
+    Ok(())
 }
