@@ -19,5 +19,6 @@ pub use condition::of_cond;
 pub use event::of_event;
 pub use formula::{Formula, Linear, Op, Term};
 pub use frozen::only_changed;
+pub use level::level_at;
 pub use relation::{of_own, of_relation};
 pub use violation::{of_gap, of_outside};

@@ -4,14 +4,11 @@ use Rattle.std.specs.Prelude.{IfOk, Result, Ok, Err}
 use Rattle.std.specs.List.{filter, flat_map}
 use Rattle.scr_text.specs.declared.memory.NoMemory.{NoMemory}
 use Rattle.scr_spec.specs.Data.{Data}
-use Rattle.scr_spec.specs.declared.table.Heading.{Heading}
-use Rattle.scr_spec.specs.declared.table.Heading.TheVariants.{Condition, Event, Modes}
 use Rattle.scr_spec.specs.declared.table.Table.{Table}
 use Rattle.scr_spec.specs.Relations.{table_of}
 use Rattle.scr_formula.specs.declared.formula.Formula.{Formula}
 use Rattle.scr_formula.specs.declared.formula.Formula.TheVariants.{And}
 use Rattle.scr_formula.specs.Frozen.{frozen}
-use Rattle.scr_formula.specs.Tables.{class_in_new}
 use Rattle.scr_depend.specs.Graphs.{is_among}
 use Rattle.scr_depend.specs.Dependencies.{graph_of}
 use Rattle.scr_depend.specs.Needs.{IsNeed}
@@ -21,12 +18,6 @@ use Rattle.scr_goals.specs.Formulas.{violation, violated, goal_formula_of, IsGoa
 
 pub are_pairs : (spec : Data) (order : List ℕ) (v x : ℕ) (need : List ℕ) (fs : List Formula) → IsNeed (graph_of spec) v need → fs ≡ pair_formulas spec order need x → ArePairs spec order v x fs
 are_pairs spec order v x need fs needed e = record { need = need; needed = needed; formulas = e }
-
--- a goal reads the class in the old state
-pub read_before : (h : Heading) → class_in_new h false ≡ false
-read_before Condition = refl
-read_before Event = refl
-read_before Modes = refl
 
 pub over_pairs : (spec : Data) (order : List ℕ) (v x : ℕ) (wrong pairs : List Formula) (f : Formula) → ArePairs spec order v x pairs → f ≡ frozen spec x (And (wrong ++ pairs)) → IsOverPairs spec order v x wrong f
 over_pairs spec order v x wrong pairs f related e = record { pairs = pairs; related = related; formula = e }

@@ -23,6 +23,7 @@ use Rattle.scr_formula.proofs.SideTruth.{level_read}
 use Rattle.scr_formula.proofs.JoinTruth.{holds_at-negation}
 use Rattle.scr_formula.proofs.EventTruth.{holds_at-same_code}
 use Rattle.scr_formula.proofs.TableTruth.{own_truth_ok, relation_truth_ok}
+use Rattle.scr_formula.proofs.ViolationTruth.{meets_at_most}
 use Rattle.scr_depend.specs.Graphs.{is_among}
 use Rattle.scr_depend.specs.Dependencies.{graph_of}
 use Rattle.scr_depend.specs.Orders.{IsOrder}
@@ -41,9 +42,6 @@ always = ((λ h. tt), (λ h. refl))
 pub int_le_tells : (x y : ℤ) → Decides (int_le x y) (x ≤ℤ y)
 int_le_tells x y = ((λ h. grind (arith, ints)), (λ h. grind (arith, ints)))
 
-pub meets_below : (z a b : ℤ) → z ≡ a -ℤ b → int_le z (pos 0) ≡ int_le a b
-meets_below z a b e = grind (arith, ints)
-
 pub false_is_true : false ≡ true → ⊥
 false_is_true e = cc
 
@@ -52,12 +50,12 @@ false_is_true e = cc
 rises : (s t : Codes) (x : ℕ) (k : ℤ) → holds_at (valuation_of s t) (at_most_above true x k) ≡ int_le (code_of t x -ℤ code_of s x) k
 rises s t x k =
     let z = pos 0 +ℤ pos 1 *ℤ code_of t x +ℤ negsuc 0 *ℤ code_of s x +ℤ neg_ℤ k in
-    holds_at-Atom _ _ ∙ rw (level_read s t true x, level_read s t false x) (meets_below z (code_of t x -ℤ code_of s x) k (omega (arith, ints)))
+    holds_at-Atom _ _ ∙ rw (level_read s t true x, level_read s t false x) (meets_at_most (code_of t x -ℤ code_of s x) k z (omega (arith, ints)))
 
 falls : (s t : Codes) (x : ℕ) (k : ℤ) → holds_at (valuation_of s t) (at_most_above false x k) ≡ int_le (neg_ℤ k) (code_of t x -ℤ code_of s x)
 falls s t x k =
     let z = pos 0 +ℤ pos 1 *ℤ code_of s x +ℤ negsuc 0 *ℤ code_of t x +ℤ neg_ℤ k in
-    holds_at-Atom _ _ ∙ rw (level_read s t false x, level_read s t true x) (meets_below z (neg_ℤ k) (code_of t x -ℤ code_of s x) (omega (arith, ints)))
+    holds_at-Atom _ _ ∙ rw (level_read s t false x, level_read s t true x) (meets_at_most (neg_ℤ k) (code_of t x -ℤ code_of s x) z (omega (arith, ints)))
 
 differs : (s t : Codes) (x : ℕ) → Decides (holds_at (valuation_of s t) (Not (same_code x))) (code_of t x ≢ code_of s x)
 differs s t x = Decides-at _ (not (int_eq (code_of t x) (code_of s x))) (holds_at-negation _ _ _ (holds_at-same_code s t x)) (Decides-not _ (Decides-int_eq (code_of t x) (code_of s x)))

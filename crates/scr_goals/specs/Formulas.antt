@@ -1,25 +1,19 @@
 -- The formula of a goal, true exactly of its violations.
-use Rattle.std.specs.Prelude.{◌≡◌, ℕ, ◌-◌, ℤ, ◌-ℤ◌, Bool, false, true, IsTrue, Option, Some, None, List, [], ◌∷◌, ◌++◌, map, length, slice_get}
+use Rattle.std.specs.Prelude.{◌≡◌, ℕ, ◌-◌, false, IsTrue, Option, Some, None, List, [], ◌∷◌, ◌++◌, slice_get}
 use Rattle.std.specs.Option.{option_map_or}
-use Rattle.std.specs.List.{range_with_len}
 use Rattle.scr_spec.specs.Data.{Data}
-use Rattle.scr_spec.specs.declared.spec.Domain.{Domain}
 use Rattle.scr_spec.specs.declared.table.Row.{Row}
-use Rattle.scr_spec.specs.declared.table.Heading.{Heading}
-use Rattle.scr_spec.specs.declared.table.Heading.TheVariants.{Condition, Event, Modes}
 use Rattle.scr_spec.specs.declared.table.Table.{Table}
 use Rattle.scr_spec.specs.Meaning.{Codes}
 use Rattle.scr_spec.specs.Domains.{IsTyped, domain_of}
 use Rattle.scr_spec.specs.Relations.{table_of}
-use Rattle.scr_formula.specs.declared.formula.Op.TheVariants.{Le}
-use Rattle.scr_formula.specs.declared.formula.Term.{Term}
 use Rattle.scr_formula.specs.declared.formula.Formula.{Formula}
-use Rattle.scr_formula.specs.declared.formula.Formula.TheVariants.{False, Atom, Not, And}
+use Rattle.scr_formula.specs.declared.formula.Formula.TheVariants.{False, And}
 use Rattle.scr_formula.specs.Truth.{holds_at}
 use Rattle.scr_formula.specs.Levels.{valuation_of}
-use Rattle.scr_formula.specs.Sides.{side_terms}
-use Rattle.scr_formula.specs.Joined.{all_of, any_of}
-use Rattle.scr_formula.specs.Tables.{under_modes, cell_formula, hold_formula, value_constant}
+use Rattle.scr_formula.specs.Joined.{all_of}
+use Rattle.scr_formula.specs.Tables.{hold_formula}
+use Rattle.scr_formula.specs.Violations.{gap_formula, outside_formula}
 use Rattle.scr_formula.specs.Frozen.{frozen}
 use Rattle.scr_depend.specs.Dependencies.{graph_of}
 use Rattle.scr_depend.specs.Needs.{IsNeed}
@@ -28,64 +22,24 @@ use Rattle.scr_goals.specs.declared.goal.GoalKind.TheVariants.{Disjoint, Cover, 
 use Rattle.scr_goals.specs.declared.goal.Goal.{Goal}
 use Rattle.scr_goals.specs.Pairs.{pair_formulas, ArePairs}
 
--- ---- cover
-
--- the condition of a cell, read in the old state
-abbrev pub cell_at_formula : Data → Table → Row → ℕ → Formula
-cell_at_formula spec table row column = option_map_or (cell_formula spec table.heading false) (slice_get row.cells column) False
-
--- the class has one of the row's modes, and no condition of the row is true
-abbrev pub uncovered_formula : Data → Table → Row → Formula
-uncovered_formula spec table row =
-    under_modes false table.class row.modes (Not (any_of (map (cell_at_formula spec table row) (range_with_len 0 (length row.cells)))))
-
--- ---- range
-
--- the terms of a value, or of one that is taken away; in an event table unprimed names are read in the old state and
--- primed ones in the new
-abbrev pub column_terms : Bool → Table → ℕ → Heading → List Term
-column_terms away table column Condition = option_map_or (side_terms away false false) (slice_get table.values column) []
-column_terms away table column Event = option_map_or (side_terms away false true) (slice_get table.values column) []
-column_terms away table column Modes = []
-
--- the number less the value is at most 0
-abbrev pub at_least : Data → Table → Row → ℕ → ℤ → Formula
-at_least spec table row column lo = Atom (record {
-  terms = column_terms true table column table.heading;
-  constant = lo -ℤ value_constant spec table row column table.heading;
-  op = Le;
-})
-
--- the value less the number is at most 0
-abbrev pub at_most : Data → Table → Row → ℕ → ℤ → Formula
-at_most spec table row column hi = Atom (record {
-  terms = column_terms false table column table.heading;
-  constant = value_constant spec table row column table.heading -ℤ hi;
-  op = Le;
-})
-
--- the value is outside the domain
-abbrev pub outside_formula : Data → Table → Row → ℕ → Domain → Formula
-outside_formula spec table row column d = Not (And (at_least spec table row column d.lo ∷ at_most spec table row column d.hi ∷ []))
-
 -- ---- goals, by the places of the row and the columns, from 0
 
 -- what is not there holds nowhere
 abbrev pub at_row : Table → ℕ → (Row → Formula) → Formula
 at_row table row f = option_map_or f (slice_get table.rows row) False
 
--- the cell holds
+-- the cell holds; a condition table is read in the old state
 abbrev pub held : Data → Table → ℕ → ℕ → Formula
 held spec table row column = at_row table row (λ r. hold_formula spec table false r column)
 
 -- the value of the cell is outside the domain of the variable
 abbrev pub outside : Data → Table → ℕ → ℕ → Formula
-outside spec table row column = at_row table row (λ r. outside_formula spec table r column (domain_of spec table.variable))
+outside spec table row column = at_row table row (λ r. outside_formula spec table false r column (domain_of spec table.variable))
 
--- what is wrong
+-- what is wrong: two cells hold; the class has a mode of the row and no condition is true; a cell holds with a value outside
 abbrev pub violation : Data → Table → GoalKind → ℕ → ℕ → ℕ → List Formula
 violation spec table Disjoint row i j = held spec table row i ∷ held spec table row j ∷ []
-violation spec table Cover row i j = at_row table row (uncovered_formula spec table) ∷ []
+violation spec table Cover row i j = at_row table row (gap_formula spec table) ∷ []
 violation spec table Range row i j = held spec table row i ∷ outside spec table row i ∷ []
 
 -- in a state; or at a related pair in which x changed, where no other monitored variable has a new level

@@ -4,16 +4,14 @@ ghost use Rattle.scr_spec.specs.Shown.{data_of};
 ghost use Rattle.scr_spec.specs.Cells.{is_table_over};
 ghost use Rattle.scr_spec.specs.Relations.{is_monitored, table_of};
 ghost use Rattle.scr_formula.specs.Measure.{IsOver};
+ghost use Rattle.scr_formula.specs.Violations.{gap_formula};
 ghost use Rattle.scr_goals.specs.Goals.{is_change_over, is_goal_over};
-ghost use Rattle.scr_goals.specs.Formulas.{held, at_row, uncovered_formula, outside, violation, IsOverPairs, IsViolated, IsTableGoalFormula, IsGoalFormula};
+ghost use Rattle.scr_goals.specs.Formulas.{held, at_row, outside, violation, IsOverPairs, IsViolated, IsTableGoalFormula, IsGoalFormula};
 
-use crate::cell::{hold_at, uncovered_at};
-use crate::join::conjunction;
 use crate::pair::pairs_at;
-use crate::range::outside_at;
 use crate::{Goal, GoalKind};
 use scr_depend::Order;
-use scr_formula::{Formula, only_changed};
+use scr_formula::{Formula, of_cell, of_gap, of_outside, only_changed};
 use scr_spec::{Spec, Table};
 use scr_text::NoMemory;
 use sqlite_items::Items;
@@ -32,22 +30,22 @@ fn held(
 {
     match table.rows.get(row) {
         None => Ok(Formula::False),
-        Some(r) => hold_at(alloc, spec, table, r, column),
+        Some(r) => of_cell(alloc, spec, table, false, r, column),
     }
 }
 
 #[tactic(auto, using(scr_spec::proofs::Lookup::lookup_laws))]
-fn uncovered(alloc: Global, spec: &Spec, table: &Table, row: usize) -> Result<Formula, NoMemory>
+fn gap(alloc: Global, spec: &Spec, table: &Table, row: usize) -> Result<Formula, NoMemory>
     requires { IsTrue (is_table_over (data_of spec.now) table.now) }
-    ensures { IfOk result (λ f. f ≡ at_row table.now row (uncovered_formula (data_of spec.now) table.now)) }
+    ensures { IfOk result (λ f. f ≡ at_row table.now row (gap_formula (data_of spec.now) table.now)) }
 {
     match table.rows.get(row) {
         None => Ok(Formula::False),
-        Some(r) => uncovered_at(alloc, spec, table, r),
+        Some(r) => of_gap(alloc, spec, table, r),
     }
 }
 
-#[tactic(auto, using(scr_spec::proofs::Lookup::lookup_laws, scr_spec::proofs::Narrow::variable_narrow))]
+#[tactic(auto, using(scr_spec::proofs::Lookup::lookup_laws))]
 fn outside(
     alloc: Global,
     spec: &Spec,
@@ -61,7 +59,7 @@ fn outside(
     let domain = spec.domain(table.variable);
     match table.rows.get(row) {
         None => Ok(Formula::False),
-        Some(r) => outside_at(alloc, spec, table, r, column, domain),
+        Some(r) => of_outside(alloc, spec, table, false, r, column, domain),
     }
 }
 
@@ -84,7 +82,7 @@ fn violation_at(
             wrong.push(held(alloc, spec, table, row, i)?)?;
             wrong.push(held(alloc, spec, table, row, j)?)?;
         }
-        GoalKind::Cover => wrong.push(uncovered(alloc, spec, table, row)?)?,
+        GoalKind::Cover => wrong.push(gap(alloc, spec, table, row)?)?,
         GoalKind::Range => {
             wrong.push(held(alloc, spec, table, row, i)?)?;
             wrong.push(outside(alloc, spec, table, row, i)?)?;
@@ -124,7 +122,7 @@ fn violated(
     ensures { IfOk result (λ f. IsViolated (data_of spec.now) order.now.list v wrong f changed) }
 {
     match changed {
-        None => Ok(conjunction(wrong)),
+        None => Ok(Formula::conjunction(wrong)),
         Some(x) => over_pairs(alloc, spec, order, v, wrong, x),
     }
 }

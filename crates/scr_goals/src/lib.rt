@@ -2,16 +2,11 @@
 //! wrong.
 #![tactic(auto)]
 
-mod cell;
 mod formula;
 mod goal;
-mod join;
 mod law;
-mod level;
 mod list;
 mod pair;
-mod range;
-mod side;
 
 pub use formula::goal_formula;
 pub use goal::{Goal, GoalKind};

@@ -10,10 +10,8 @@ ghost use Rattle.scr_depend.specs.Results.{IsOrderOf};
 ghost use Rattle.scr_depend.specs.Related.{bound_of};
 ghost use Rattle.scr_goals.specs.Pairs.{apart, at_most_above, bounded_change, change_formula, need_formulas, pair_formulas, ArePairs, TellRelated, AreOver};
 
-use crate::join::negation;
-use crate::level::level_at;
 use scr_depend::{Order, need};
-use scr_formula::{Formula, Linear, Op, Term, of_own, of_relation};
+use scr_formula::{Formula, Linear, Op, Term, level_at, of_own, of_relation};
 use scr_spec::{Heading, Spec};
 use scr_text::NoMemory;
 use sqlite_items::Items;
@@ -52,7 +50,7 @@ fn differs(alloc: Global, x: usize) -> Result<Formula, NoMemory>
     ensures { IfOk result (λ f. f ≡ Not (same_code x)) }
 {
     let same = levels_apart(alloc, x, true, 0, Op::Eq)?;
-    negation(alloc, same)
+    Formula::negation(alloc, same)
 }
 
 /// One level of the variable is at most k above the other.
