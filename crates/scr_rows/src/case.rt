@@ -7,7 +7,8 @@ use std::alloc::{AllocError, Global};
 /// How many bytes an answer has at the most.
 const ROOM: usize = 4096;
 
-/// The text in which `[4:ab#]` stands for `ab1ab2ab3ab4`, and `~` for the end of a line.
+/// The text in which `[4:ab#]` stands for `ab1ab2ab3ab4`, `~` for the end of a line, and `^` for a
+/// carriage return.
 fn expanded(alloc: Global, line: &str) -> Result<String, AllocError> {
     let mut out = String::new(alloc);
     for part in line.split('[') {
@@ -19,7 +20,8 @@ fn expanded(alloc: Global, line: &str) -> Result<String, AllocError> {
             None => out.push_str(part)?,
         }
     }
-    out.replace(alloc, "~", "\n")
+    let ended = out.replace(alloc, "~", "\n")?;
+    ended.replace(alloc, "^", "\r")
 }
 
 /// Appends what `4:ab#` stands for.
@@ -67,8 +69,21 @@ fn bytes_of(alloc: Global, lines: &[String]) -> Result<Vec<u8>, AllocError> {
     Ok(bytes)
 }
 
+/// The words `check f`, and the limit where there is one.
+fn words_of(alloc: Global, limit: Option<&String>) -> Result<Vec<String>, AllocError> {
+    let mut words = vec![in alloc; "check".to_string(alloc)?, "f".to_string(alloc)?]?;
+    if let Some(limit) = limit {
+        words.push(limit.clone()?)?;
+    }
+    Ok(words)
+}
+
 /// What `check` writes on a text of these lines, and then its status.
-pub fn answer(alloc: Global, lines: &[String]) -> Result<String, AllocError> {
+pub fn answer(
+    alloc: Global,
+    lines: &[String],
+    limit: Option<&String>,
+) -> Result<String, AllocError> {
     let name = "f".to_string(alloc)?;
     let bytes = bytes_of(alloc, lines)?;
     let files = vec![in alloc; MemoryFile { name, bytes }]?;
@@ -76,7 +91,7 @@ pub fn answer(alloc: Global, lines: &[String]) -> Result<String, AllocError> {
     let Ok(mut sink) = MemorySink::new(alloc, ROOM, ROOM, Vec::new(alloc)) else {
         return Err(AllocError);
     };
-    let words = vec![in alloc; "check".to_string(alloc)?, "f".to_string(alloc)?]?;
+    let words = words_of(alloc, limit)?;
     let status = run(alloc, words.as_slice(), &mut shelf, &mut sink);
     let written = String::from_utf8_lossy(alloc, sink.bytes())?;
     format!(in alloc; "{written}status {}\n", status.number())

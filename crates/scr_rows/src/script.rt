@@ -18,13 +18,14 @@ enum Block {
     Case,
 }
 
-/// The texts so far, and the title and the lines of the present case.
+/// The texts so far, and the title, the lines and the limit of the present case.
 #[derive(Drop)]
 pub struct Script {
     bases: Vec<Base>,
     block: Block,
     title: String,
     lines: Vec<String>,
+    limit: Option<String>,
 }
 
 impl Script {
@@ -34,6 +35,7 @@ impl Script {
             block: Block::Outside,
             title: String::new(alloc),
             lines: Vec::new(alloc),
+            limit: None,
         }
     }
 
@@ -42,7 +44,7 @@ impl Script {
         match self.block {
             Block::Outside => self.begin(alloc, line)?,
             Block::Text if line != "end" => self.add(alloc, line)?,
-            Block::Case if line != "end" => change(alloc, &mut self.lines, line)?,
+            Block::Case if line != "end" => self.differ(alloc, line)?,
             Block::Text => self.block = Block::Outside,
             Block::Case => {
                 self.block = Block::Outside;
@@ -63,6 +65,7 @@ impl Script {
             let (name, title) = rest.split_once(' ').unwrap_or((rest, ""));
             self.title = title.to_string(alloc)?;
             self.lines = self.copy_of(alloc, name)?;
+            self.limit = None;
             self.block = Block::Case;
         }
         Ok(())
@@ -88,8 +91,17 @@ impl Script {
         Ok(())
     }
 
+    /// Takes a line of a case: its limit, or a change of its text.
+    fn differ(&mut self, alloc: Global, line: &str) -> Result<(), AllocError> {
+        match line.strip_prefix("limit ") {
+            Some(word) => self.limit = Some(word.to_string(alloc)?),
+            None => change(alloc, &mut self.lines, line)?,
+        }
+        Ok(())
+    }
+
     fn answer(&self, alloc: Global) -> Result<String, AllocError> {
-        let answer = answer(alloc, self.lines.as_slice())?;
+        let answer = answer(alloc, self.lines.as_slice(), self.limit.as_ref())?;
         format!(in alloc; "{}\n{answer}\n", self.title)
     }
 }
