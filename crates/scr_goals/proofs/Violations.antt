@@ -151,20 +151,27 @@ module _ (spec : Data) (table : Table) (order need : List ℕ) where
       let rows = range_with_len 0 (length table.rows) in
       let d = λ (row : ℕ). disjoint_goals cs row (n row) in
       let r = λ (row : ℕ). range_goals spec cs table row (n row) in
-      (each_two U (λ row. d row ++ cover_goals h row) r rows).1
-      ((each_two U d (cover_goals h) rows).1
-      ((disjoint.table_goals U cs table).1 (λ row m i mi j mj less. ds row i j), (each_flat U (cover_goals h) rows).1 ((each_range (λ row. Each U (cover_goals h row)) (length table.rows)).1 (λ row m. covers row))),
-      (range_lists spec U cs table).1 (λ row m i mi asked. rs row i))
+      (each_two U (λ row. d row ++ cover_goals h row) r rows).1 (
+        (each_two U d (cover_goals h) rows).1
+            ((disjoint.table_goals U cs table).1 (λ row m i mi j mj less. ds row i j), (each_flat U (cover_goals h) rows).1 ((each_range (λ row. Each U (cover_goals h row)) (length table.rows)).1 (λ row m. covers row))),
+        (range_lists spec U cs table).1 (λ row m i mi asked. rs row i),
+      )
 
   state_told : table.heading ≡ Condition → IsSplitByMode spec table → Each IsTold (flat_map (λ row. disjoint_goals (None ∷ []) row (columns_in table row) ++ cover_goals Condition row ++ range_goals spec (None ∷ []) table row (columns_in table row)) (range_with_len 0 (length table.rows)))
   state_told e split =
       let at : (s t : Codes) → at_of (taken_in_new table.heading false) s t ≡ s = λ s t. ap (λ h. at_of (taken_in_new h false) s t) e in
       goals_each IsTold (None ∷ []) Condition
-      (λ row i j. (over_state (disjoint_goal row i j None) (violation spec table Disjoint row i j) (BothHold spec table row i j) (goal_plain spec table order need row i j None) refl e (both_tell spec table row i j)
-          (λ s t typed h. both_wrong row i j None s t s (at s t) h), tt))
+      (λ row i j. (
+        over_state (disjoint_goal row i j None) (violation spec table Disjoint row i j) (BothHold spec table row i j) (goal_plain spec table order need row i j None) refl e (both_tell spec table row i j)
+            (λ s t typed h. both_wrong row i j None s t s (at s t) h),
+        tt,
+      ))
       (λ row. (gap_told row, tt))
-      (λ row i. (over_state (range_goal row i None) (violation spec table Range row i 0) (HoldsOutside spec table row i) (range_plain spec table order need row i None) refl e (range_tells spec table row i)
-          (λ s t typed h. range_wrong row i s t s (at s t) h), tt))
+      (λ row i. (
+        over_state (range_goal row i None) (violation spec table Range row i 0) (HoldsOutside spec table row i) (range_plain spec table order need row i None) refl e (range_tells spec table row i)
+            (λ s t typed h. range_wrong row i s t s (at s t) h),
+        tt,
+      ))
     where
       gap_told : (row : ℕ) → IsTold (cover_goal row)
       gap_told row s t solution =
@@ -185,12 +192,12 @@ module _ (spec : Data) (table : Table) (order need : List ℕ) where
       let at : (s t : Codes) → at_of (taken_in_new table.heading false) s t ≡ t = λ s t. ap (λ b. at_of b s t) e in
       goals_each IsTold cs h
       (λ row i j. (change_goals spec (λ c. IsTold (disjoint_goal row i j c))).1 (λ x mx monitored.
-          over_pair (disjoint_goal row i j (Some x)) (violation spec table Disjoint row i j) (BothHold spec table row i j) x (goal_plain spec table order need row i j (Some x)) refl monitored judged told
-          (both_tell spec table row i j) (λ s t k. both_wrong row i j (Some x) s t t (at s t) k)))
+      over_pair (disjoint_goal row i j (Some x)) (violation spec table Disjoint row i j) (BothHold spec table row i j) x (goal_plain spec table order need row i j (Some x)) refl monitored judged told
+      (both_tell spec table row i j) (λ s t k. both_wrong row i j (Some x) s t t (at s t) k)))
       (λ row. subst (Each IsTold) (sym (uncovered row)) tt)
       (λ row i. (change_goals spec (λ c. IsTold (range_goal row i c))).1 (λ x mx monitored.
-          over_pair (range_goal row i (Some x)) (violation spec table Range row i 0) (HoldsOutside spec table row i) x (range_plain spec table order need row i (Some x)) refl monitored judged told
-          (range_tells spec table row i) (λ s t k. range_wrong row i s t t (at s t) k)))
+      over_pair (range_goal row i (Some x)) (violation spec table Range row i 0) (HoldsOutside spec table row i) x (range_plain spec table order need row i (Some x)) refl monitored judged told
+      (range_tells spec table row i) (λ s t k. range_wrong row i s t t (at s t) k)))
 
   told_at : (h : Heading) → table.heading ≡ h → Told spec order need table.variable → MustSplit spec table h
       → Each IsTold (flat_map (λ row. disjoint_goals (changes_in spec h) row (columns_in table row) ++ cover_goals h row ++ range_goals spec (changes_in spec h) table row (columns_in table row)) (range_with_len 0 (length table.rows)))

@@ -131,7 +131,7 @@ fn push_need(out: &mut Items<Formula>, alloc: Global, spec: &Spec, w: usize) -> 
 }
 
 #[tactic(auto, using(crate::proofs::Growth::need_steps))]
-fn pairs_for(
+pub(crate) fn pairs_for(
     alloc: Global,
     spec: &Spec,
     order: &[usize],
@@ -152,7 +152,7 @@ fn pairs_for(
 }
 
 #[tactic(auto, using(crate::proofs::Calls::are_pairs))]
-pub(crate) fn pairs_at(
+fn pairs_at(
     alloc: Global,
     spec: &Spec,
     order: &Order,
