@@ -86,4 +86,3 @@ module _ (spec : Data) (order : List ℕ) (limit : ℕ) where
     all_right verdicts h k =
         All-from_recursion (MeetsChecks spec) spec.tables
         (have_right spec.tables (own_tables spec.tables (rules_kept spec sound).tabled.one_table) (have_yes spec.tables verdicts h k))
-
