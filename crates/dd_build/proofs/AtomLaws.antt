@@ -1,20 +1,20 @@
 -- The tree of an atom is what is left of its sum at the start, with its terms in the order of the levels.
-use Rattle.std.proofs.Common.{◌≡◌, ℕ, zero, suc, ◌<◌, ◌≤◌, ◌^◌, ℤ, pos, ◌+ℤ◌, unsigned_abs, w64, to_z, of_z, ltb, Bool, true, List, [], ◌∷◌, length, get_or, drop, sym, ap, subst, ◌∙◌, arith}
+use Rattle.std.proofs.Common.{◌≡◌, ℕ, zero, suc, ◌<◌, ◌≤◌, ◌^◌, ℤ, pos, ◌+ℤ◌, unsigned_abs, w64, to_z, of_z, ltb, Bool, true, List, [], ◌∷◌, length, get_or, drop, refl, sym, ap, subst, ◌∙◌, arith}
 use Rattle.std.specs.Prelude.{sum_by}
 use Rattle.std.specs.List.{All, list_all}
 use Rattle.std.proofs.lemmas.Bool.{and_parts, ltb-true}
 use Rattle.std.proofs.lemmas.Int.{ints, to_z-of_z}
 use Rattle.std.proofs.lemmas.List.{length-map}
-use Rattle.scr_spec.specs.declared.spec.Domain.{Domain}
-use Rattle.scr_formula.specs.declared.formula.Term.{Term}
-use Rattle.scr_formula.specs.declared.formula.Linear.{Linear}
-use Rattle.scr_formula.specs.Truth.{terms_value, meets_zero, atom_holds}
+use Rattle.dd_formula.specs.declared.domain.Domain.{Domain}
+use Rattle.dd_formula.specs.declared.formula.Term.{Term}
+use Rattle.dd_formula.specs.declared.formula.Linear.{Linear}
+use Rattle.dd_formula.specs.Truth.{terms_value, meets_zero, atom_holds}
 use Rattle.dd_tree.specs.Ordered.{IsTyped}
 use Rattle.dd_tree.proofs.Free.{tree_of-agree}
 use Rattle.dd_store.specs.Domains.{size_of, code_at}
 use Rattle.dd_store.specs.Held.{Held, sizes}
 use Rattle.dd_store.specs.Kept.{IsHeld}
-use Rattle.dd_build.specs.declared.linear.Subtotal.{Subtotal}
+use Rattle.dd_build.specs.declared.interval.Subtotal.{Subtotal}
 use Rattle.dd_build.specs.Atoms.{codes_at, atom_of, bound_of, term_measure, measure, IsAtomOver}
 use Rattle.dd_build.specs.Sums.{ordered_from, AreOrderedTerms, rest_at, IsSubtotal}
 use Rattle.dd_build.proofs.TermLaws.{IsBounded, ordered_value, ordered_ordered}
@@ -85,3 +85,10 @@ AreOrderedTerms-start ds us ts e = subst (AreOrderedTerms 0 (length ds)) (sym e)
 -- the constant as it is reckoned
 pub constant_is : (ds : List Domain) (a : Linear) → IsSmallAtom ds a → to_z w64 (of_z w64 a.constant) ≡ a.constant
 constant_is ds a over = let small = over.small in to_z-of_z w64 a.constant (fits_small a.constant (unsigned_abs a.constant) (omega arith) (omega (arith, small)))
+
+-- what is left of the constant as it is reckoned
+pub whole_is : (held : Held) → IsHeld held → (a : Linear) → IsAtomOver held.domains a → (ts : List Term) → ts ≡ ordered_from held.domains a.terms 0 (length held.domains)
+    → rest_at held.domains a.op ts (record { place = 0; sum = to_z w64 (of_z w64 a.constant) }) ≡ atom_of held a
+whole_is held h a over ts e =
+    let small = small_atom held.domains a over in
+    atom_is held h a small (record { place = 0; sum = to_z w64 (of_z w64 a.constant) }) ts refl (constant_is held.domains a small) e

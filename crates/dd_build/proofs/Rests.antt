@@ -1,12 +1,14 @@
 -- What is left of a sum, at the positions of its first level.
-use Rattle.std.proofs.Common.{◌≡◌, ℕ, suc, ◌+◌, ◌<◌, ◌≤◌, ◌^◌, ℤ, pos, ◌+ℤ◌, ◌*ℤ◌, unsigned_abs, w64, to_z, of_z, Bool, List, [], ◌∷◌, ◌++◌, length, get_or, set, drop, refl, sym, ap, ap₂, ◌∙◌, arith, get_or-set_other}
+use Rattle.std.proofs.Common.{◌≡◌, ℕ, suc, ◌+◌, ◌<◌, ◌≤◌, ◌^◌, ℤ, pos, ◌+ℤ◌, ◌*ℤ◌, unsigned_abs, w64, to_z, of_z, Bool, false, List, [], ◌∷◌, ◌++◌, length, get_or, set, drop, refl, sym, ap, ap₂, subst, ◌∙◌, arith, get_or-set_other}
 use Rattle.std.proofs.lemmas.Int.{ints, to_z-of_z}
 use Rattle.std.proofs.lemmas.List.{length-map, drop_more, drop_all}
-use Rattle.scr_spec.specs.declared.spec.Domain.{Domain}
-use Rattle.scr_formula.specs.declared.formula.Op.{Op}
-use Rattle.scr_formula.specs.declared.formula.Term.{Term}
-use Rattle.scr_formula.specs.Truth.{terms_value, meets_zero}
+use Rattle.std.proofs.lemmas.List.FromFn.{fill_by_all}
+use Rattle.dd_formula.specs.declared.domain.Domain.{Domain}
+use Rattle.dd_formula.specs.declared.formula.Op.{Op}
+use Rattle.dd_formula.specs.declared.formula.Term.{Term}
+use Rattle.dd_formula.specs.Truth.{terms_value, meets_zero}
 use Rattle.dd_tree.specs.Tree.{Tree, leaf}
+use Rattle.dd_tree.specs.Function.{join, tree_of}
 use Rattle.dd_tree.proofs.Function.{tree_of-is}
 use Rattle.dd_tree.proofs.Free.{ReadsFrom, cofactors_of, length-cofactors_of, get_or-cofactors_of, IsOrderedFrom-cofactors_of, tree_of-join}
 use Rattle.dd_store.specs.declared.node.Stretch.{Stretch}
@@ -16,11 +18,13 @@ use Rattle.dd_store.specs.Kept.{IsHeld}
 use Rattle.dd_store.specs.Runs.{children_of}
 use Rattle.dd_store.specs.Split.{IsSplit, split_of, HasNoRoom}
 use Rattle.dd_tree.specs.Added.{add_tree}
-use Rattle.dd_build.specs.declared.linear.Subtotal.{Subtotal}
-use Rattle.dd_build.specs.declared.linear.Turn.{Turn}
+use Rattle.dd_build.specs.declared.interval.Subtotal.{Subtotal}
+use Rattle.dd_build.specs.declared.interval.Room.{Room}
 use Rattle.dd_build.specs.Built.{Keeps, IsOver, IsBuilt, IsWithin}
 use Rattle.dd_build.specs.Atoms.{codes_at}
-use Rattle.dd_build.specs.Sums.{AreOrderedTerms, rest_of, rest_at, sum_at, term_of, IsTurn}
+use Rattle.dd_build.specs.Sums.{AreOrderedTerms, rest_of, rest_at, sum_at, term_of, IsNextSubtotal}
+use Rattle.dd_build.specs.Intervals.{IsSteady, IsInRoom, IsWithinBoth}
+use Rattle.dd_build.proofs.Rooms.{run_is, IsSteadyTo, IsSteadyTo-run}
 use Rattle.dd_build.proofs.FactorLaws.{no_term, fits_small}
 use Rattle.dd_build.proofs.TermLaws.{value-cons}
 use Rattle.dd_build.proofs.Subtotals.{term_there}
@@ -59,8 +63,17 @@ module _ (held : Held) (h : IsHeld held) (op : Op) (ts : List Term) (from : Subt
   in_range = omega (arith, (term_there 0 (length held.domains) ts from.place ordered left).level, length-map held.domains size_of)
 
   -- those behind it are later
-  free : (c : ℕ) → ReadsFrom (suc (term_of ts from.place).level) (left_at held.domains op (term_of ts from.place) (drop (from.place + 1) ts) from.sum c)
-  free c = left_free held.domains (length held.domains) op (term_of ts from.place) (drop (from.place + 1) ts) from.sum c (term_there 0 (length held.domains) ts from.place ordered left).later
+  free : (s : ℤ) (c : ℕ) → ReadsFrom (suc (term_of ts from.place).level) (left_at held.domains op (term_of ts from.place) (drop (from.place + 1) ts) s c)
+  free s c = left_free held.domains (length held.domains) op (term_of ts from.place) (drop (from.place + 1) ts) s c (term_there 0 (length held.domains) ts from.place ordered left).later
+
+  -- the tree of what is left after a sum is the split of those at the positions
+  is_join_at : (s : ℤ) → rest_of held.domains op (drop from.place ts) s ≡ join (term_of ts from.place).level (rests_at held op ts (record { place = from.place; sum = s }))
+  is_join_at s =
+      ap (λ xs. rest_of held.domains op xs s) (drop_more ts from.place no_term left)
+      ∙ tree_of-join (sizes held) h.codes (λ v. meets_zero op (s +ℤ terms_value (codes_at held.domains v) (term_of ts from.place ∷ drop (from.place + 1) ts)))
+      (left_at held.domains op (term_of ts from.place) (drop (from.place + 1) ts) s) (term_of ts from.place).level in_range (free s)
+      (λ v typed. ap (λ z. meets_zero op (s +ℤ z)) (value-cons (codes_at held.domains v) (term_of ts from.place) (drop (from.place + 1) ts))
+      ∙ ap (meets_zero op) (regroup s ((term_of ts from.place).factor *ℤ code_at held.domains (term_of ts from.place).level (get_or v (term_of ts from.place).level 0)) (terms_value (codes_at held.domains v) (drop (from.place + 1) ts))))
 
   -- they are the cofactors of the tree of what is left
   pub AreCofactors-rests : AreCofactors held (term_of ts from.place).level (rests_at held op ts from) (rest_at held.domains op ts from)
@@ -68,43 +81,69 @@ module _ (held : Held) (h : IsHeld held) (op : Op) (ts : List Term) (from : Subt
     is_held = h;
     in_range = in_range;
     many = length-cofactors_of (sizes held) h.codes (term_of ts from.place).level (left_at held.domains op (term_of ts from.place) (drop (from.place + 1) ts) from.sum);
-    ordered = IsOrderedFrom-cofactors_of (sizes held) h.codes (term_of ts from.place).level (left_at held.domains op (term_of ts from.place) (drop (from.place + 1) ts) from.sum) in_range free;
-    is_join = ap (λ xs. rest_of held.domains op xs from.sum) (drop_more ts from.place no_term left)
-        ∙ tree_of-join (sizes held) h.codes (λ v. meets_zero op (from.sum +ℤ terms_value (codes_at held.domains v) (term_of ts from.place ∷ drop (from.place + 1) ts)))
-        (left_at held.domains op (term_of ts from.place) (drop (from.place + 1) ts) from.sum) (term_of ts from.place).level in_range free
-        (λ v typed. ap (λ z. meets_zero op (from.sum +ℤ z)) (value-cons (codes_at held.domains v) (term_of ts from.place) (drop (from.place + 1) ts))
-        ∙ ap (meets_zero op) (regroup from.sum ((term_of ts from.place).factor *ℤ code_at held.domains (term_of ts from.place).level (get_or v (term_of ts from.place).level 0)) (terms_value (codes_at held.domains v) (drop (from.place + 1) ts))));
+    ordered = IsOrderedFrom-cofactors_of (sizes held) h.codes (term_of ts from.place).level (left_at held.domains op (term_of ts from.place) (drop (from.place + 1) ts) from.sum) in_range (free from.sum);
+    is_join = is_join_at from.sum;
   }
 
-  -- over a turn they are the one of the next subtotal
-  pub IsSpan-turn : (now : Held) → Keeps held now → (size position : ℕ) (turn : Turn) → size ≡ get_or (sizes held) (term_of ts from.place).level 0 → IsTurn now.domains ts from size position turn → IsSpan (rests_at held op ts from) position turn.last (rest_at now.domains op ts turn.next)
-  IsSpan-turn now k size position turn is_size w = record {
-    from = w.begins;
-    within = omega (arith, w.within, is_size, AreCofactors-rests.many);
+  -- over a run they are the one of the next subtotal
+  pub IsSpan-run : (now : Held) → Keeps held now → (size position steps : ℕ) (next : Subtotal) (room : Room) → size ≡ get_or (sizes held) (term_of ts from.place).level 0 → position + steps < size → IsNextSubtotal now.domains ts from position next
+      → IsSteady now.domains op ts next room → IsInRoom room (term_of ts from.place).factor steps → IsSpan (rests_at held op ts from) position (position + steps) (rest_at now.domains op ts next)
+  IsSpan-run now k size position steps next room is_size within n steady inside = record {
+    from = omega arith;
+    within = omega (arith, within, is_size, AreCofactors-rests.many);
     same = λ p le ge.
-        get_or-cofactors_of (sizes held) h.codes (term_of ts from.place).level (left_at held.domains op (term_of ts from.place) (drop (from.place + 1) ts) from.sum) p (omega (arith, w.within, is_size))
+        get_or-cofactors_of (sizes held) h.codes (term_of ts from.place).level (left_at held.domains op (term_of ts from.place) (drop (from.place + 1) ts) from.sum) p (omega (arith, within, is_size))
         ∙ ap (λ ds. rest_of ds op (drop (from.place + 1) ts) (sum_at ds (term_of ts from.place) from.sum p)) (sym k.domains)
-        ∙ w.same op p le ge;
+        ∙ run_is now.domains op ts from next position steps p room n steady inside le ge;
   }
+
+  -- at one position too
+  pub IsSpan-one : (now : Held) → Keeps held now → (size position : ℕ) (next : Subtotal) → size ≡ get_or (sizes held) (term_of ts from.place).level 0 → position < size → IsNextSubtotal now.domains ts from position next
+      → IsSpan (rests_at held op ts from) position position (rest_at now.domains op ts next)
+  IsSpan-one now k size position next is_size within n = record {
+    from = omega arith;
+    within = omega (arith, within, is_size, AreCofactors-rests.many);
+    same = λ p le ge.
+        let e : p ≡ position = omega arith in
+        get_or-cofactors_of (sizes held) h.codes (term_of ts from.place).level (left_at held.domains op (term_of ts from.place) (drop (from.place + 1) ts) from.sum) p (omega (arith, within, is_size))
+        ∙ ap (λ ds. rest_of ds op (drop (from.place + 1) ts) (sum_at ds (term_of ts from.place) from.sum p)) (sym k.domains)
+        ∙ ap₂ (λ i z. rest_of now.domains op (drop i ts) z) (sym n.place) (ap (sum_at now.domains (term_of ts from.place) from.sum) e ∙ sym n.sum);
+  }
+
+  -- what is left stays so far
+  pub IsSteady-end : (room : Room) (position : ℕ) → get_or (sizes held) (term_of ts from.place).level 0 ≤ position → IsSteadyTo held.domains op ts from room position → IsSteady held.domains op ts from room
+  IsSteady-end room position past w = record {
+    same = λ s near.
+        let level = (term_of ts from.place).level in
+        let other : Subtotal = record { place = from.place; sum = s } in
+        let own = left_at held.domains op (term_of ts from.place) (drop (from.place + 1) ts) from.sum in
+        let left_then = left_at held.domains op (term_of ts from.place) (drop (from.place + 1) ts) s in
+        let same : rests_at held op ts other ≡ rests_at held op ts from =
+        fill_by_all (λ c. tree_of (sizes held) (own c)) (rests_at held op ts other) (get_or (sizes held) level 0) (leaf false) (length-cofactors_of (sizes held) h.codes level left_then)
+        (λ p lt. get_or-cofactors_of (sizes held) h.codes level left_then p lt ∙ w.same p (omega arith) s near) in
+        is_join_at s ∙ ap (join level) same ∙ sym (is_join_at from.sum);
+  }
+
+  -- one run more stays so far
+  pub further_steady : (now : Held) → Keeps held now → (position steps : ℕ) (next : Subtotal) (room child both : Room) (factor : ℤ) → factor ≡ (term_of ts from.place).factor → IsSteadyTo held.domains op ts from room position → IsNextSubtotal now.domains ts from position next
+      → IsSteady now.domains op ts next child → IsInRoom child factor steps → IsWithinBoth room child factor steps both → IsSteadyTo held.domains op ts from both (position + steps + 1)
+  further_steady now k position steps next room child both factor e old n steady inside w =
+      IsSteadyTo-run held.domains op ts from next position steps room child both old (subst (λ ds. IsNextSubtotal ds ts from position next) k.domains n) (subst (λ ds. IsSteady ds op ts next child) k.domains steady)
+      (subst (λ f. IsInRoom child f steps) e inside) (subst (λ f. IsWithinBoth room child f steps both) e w)
 
   -- one turn of the walk
-  module _ (now : Held) (runs : List Stretch) (size position : ℕ) (turn : Turn) (is_size : size ≡ get_or (sizes held) (term_of ts from.place).level 0) (sf : SoFar held now (rests_at held op ts from) runs position)
-      (w : IsTurn now.domains ts from size position turn) where
-    -- over the turn there is one tree
-    span : IsSpan (rests_at held op ts from) position turn.last (rest_at now.domains op ts turn.next)
-    span = IsSpan-turn now sf.keeps size position turn is_size w
-
+  module _ (now : Held) (runs : List Stretch) (position last : ℕ) (next : Subtotal) (sf : SoFar held now (rests_at held op ts from) runs position) (span : IsSpan (rests_at held op ts from) position last (rest_at now.domains op ts next)) where
     -- it is built
-    pub next : (new : Held) (child : ℕ) → Keeps now new → IsBuilt now new (rest_at now.domains op ts turn.next) child → SoFar held new (rests_at held op ts from) (runs ++ record { last = turn.last; child = child } ∷ []) (turn.last + 1)
-    next new child k built = step held now new (rests_at held op ts from) runs position (rest_at now.domains op ts turn.next) (record { last = turn.last; child = child }) sf span k built
+    pub further : (new : Held) (child : ℕ) → Keeps now new → IsBuilt now new (rest_at now.domains op ts next) child → SoFar held new (rests_at held op ts from) (runs ++ record { last = last; child = child } ∷ []) (last + 1)
+    further new child k built = step held now new (rests_at held op ts from) runs position (rest_at now.domains op ts next) (record { last = last; child = child }) sf span k built
 
     -- or a part of it
-    pub part_within : (new : Held) → IsWithin now new (rest_at now.domains op ts turn.next) → IsWithin held new (rest_at held.domains op ts from)
-    part_within new inside = next_within held (term_of ts from.place).level (rests_at held op ts from) (rest_at held.domains op ts from) AreCofactors-rests now new runs position turn.last (rest_at now.domains op ts turn.next) sf span inside
+    pub part_within : (new : Held) → IsWithin now new (rest_at now.domains op ts next) → IsWithin held new (rest_at held.domains op ts from)
+    part_within new inside = next_within held (term_of ts from.place).level (rests_at held op ts from) (rest_at held.domains op ts from) AreCofactors-rests now new runs position last (rest_at now.domains op ts next) sf span inside
 
     -- or it is too much
-    pub part_over : IsOver now (rest_at now.domains op ts turn.next) → IsOver held (rest_at held.domains op ts from)
-    part_over over = too_many held (term_of ts from.place).level (rests_at held op ts from) (rest_at held.domains op ts from) AreCofactors-rests now runs position turn.last (rest_at now.domains op ts turn.next) sf span over
+    pub part_over : IsOver now (rest_at now.domains op ts next) → IsOver held (rest_at held.domains op ts from)
+    part_over over = too_many held (term_of ts from.place).level (rests_at held op ts from) (rest_at held.domains op ts from) AreCofactors-rests now runs position last (rest_at now.domains op ts next) sf span over
 
   -- the end of the walk
   module _ (now : Held) (runs : List Stretch) (size position : ℕ) (is_size : size ≡ get_or (sizes held) (term_of ts from.place).level 0) (past : size ≤ position) (sf : SoFar held now (rests_at held op ts from) runs position) where

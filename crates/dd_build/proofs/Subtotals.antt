@@ -1,22 +1,22 @@
 -- One term more of a sum.
-use Rattle.std.proofs.Common.{◌≡◌, ◌≢◌, ℕ, zero, suc, ◌+◌, ◌-◌, ◌<◌, ◌≤◌, ◌^◌, ℤ, pos, ◌+ℤ◌, ◌*ℤ◌, ◌≤ℤ◌, unsigned_abs, max, List, [], ◌∷◌, length, get_or, drop, FitsSigned, w64, to_z, of_z, sym, ap, ap₂, subst, ◌∙◌, arith}
+use Rattle.std.proofs.Common.{◌≡◌, ◌≢◌, ℕ, zero, suc, ◌+◌, ◌<◌, ◌≤◌, ◌^◌, ℤ, pos, ◌+ℤ◌, ◌*ℤ◌, ◌≤ℤ◌, unsigned_abs, max, List, [], ◌∷◌, length, get_or, drop, FitsSigned, w64, to_z, of_z, sym, ap, ap₂, subst, ◌∙◌, arith}
 use Rattle.std.specs.Prelude.{sum_by}
 use Rattle.std.specs.List.{All}
 use Rattle.std.proofs.lemmas.Int.{ints, unsigned_abs-mul, to_z-of_z}
-use Rattle.std.proofs.lemmas.List.{get_or-map, drop_more, drop_all}
+use Rattle.std.proofs.lemmas.List.{get_or-map, drop_more}
 use Rattle.std.proofs.lemmas.List.Sums.{sum_by-cons}
 use Rattle.std.proofs.Math.Nat.{mul-le-mul_left}
-use Rattle.scr_spec.specs.declared.spec.Domain.{Domain}
-use Rattle.scr_spec.specs.Over.{domain_bound}
-use Rattle.scr_formula.specs.declared.formula.Op.{Op}
-use Rattle.scr_formula.specs.declared.formula.Term.{Term}
-use Rattle.scr_formula.specs.Truth.{meets_zero}
+use Rattle.dd_formula.specs.declared.domain.Domain.{Domain}
+use Rattle.dd_formula.specs.Domains.{domain_bound}
+use Rattle.dd_formula.specs.declared.formula.Op.{Op}
+use Rattle.dd_formula.specs.declared.formula.Term.{Term}
+use Rattle.dd_formula.specs.Truth.{meets_zero}
 use Rattle.dd_tree.specs.Function.{tree_of}
 use Rattle.dd_store.specs.Domains.{sizes_of, code_at, IsDomain}
 use Rattle.dd_store.proofs.Codes.{no_domain, domain_at, low_at, code_at-within}
-use Rattle.dd_build.specs.declared.linear.Subtotal.{Subtotal}
+use Rattle.dd_build.specs.declared.interval.Subtotal.{Subtotal}
 use Rattle.dd_build.specs.Atoms.{bound_of, term_measure}
-use Rattle.dd_build.specs.Sums.{AreOrderedTerms, rest_of, sum_at, term_of, IsSubtotal, IsNextSubtotal, IsAlike, IsTurn}
+use Rattle.dd_build.specs.Sums.{AreOrderedTerms, rest_of, sum_at, term_of, IsSubtotal, IsNextSubtotal}
 use Rattle.dd_build.proofs.FactorLaws.{no_term, abs_sum, fits_small}
 use Rattle.dd_build.proofs.Integers.{times_sum}
 
@@ -86,50 +86,18 @@ IsNextSubtotal-reckoned ds ts from position next lt r place sum = record {
 }
 
 -- behind the last term only the comparison with 0 is left
-rest_end : (ds : List Domain) (op : Op) (s t : ℤ) → meets_zero op s ≡ meets_zero op t → rest_of ds op [] s ≡ rest_of ds op [] t
+pub rest_end : (ds : List Domain) (op : Op) (s t : ℤ) → meets_zero op s ≡ meets_zero op t → rest_of ds op [] s ≡ rest_of ds op [] t
 rest_end ds op s t e =
     let alone : (z : ℤ) → z +ℤ pos 0 ≡ z = λ z. omega (arith, ints) in
     let same : meets_zero op (s +ℤ pos 0) ≡ meets_zero op (t +ℤ pos 0) = ap (meets_zero op) (alone s) ∙ e ∙ sym (ap (meets_zero op) (alone t)) in
     ap (λ b. tree_of (sizes_of ds) (λ v. b)) same
 
 -- so many positions further
-sum_further : (ds : List Domain) (t : Term) (s : ℤ) (position k : ℕ) → sum_at ds t s (position + k) ≡ sum_at ds t s position +ℤ t.factor *ℤ pos k
+pub sum_further : (ds : List Domain) (t : Term) (s : ℤ) (position k : ℕ) → sum_at ds t s (position + k) ≡ sum_at ds t s position +ℤ t.factor *ℤ pos k
 sum_further ds t s position k =
     let code : code_at ds t.level (position + k) ≡ code_at ds t.level position +ℤ pos k = omega (arith, ints) in
     let product = ap (λ z. t.factor *ℤ z) code ∙ times_sum t.factor (code_at ds t.level position) (pos k) in
     omega (arith, ints, product)
-
--- a turn of one position
-pub IsTurn-one : (ds : List Domain) (ts : List Term) (from : Subtotal) (size position : ℕ) (next : Subtotal) → position < size → IsNextSubtotal ds ts from position next → IsTurn ds ts from size position (record { last = position; next = next })
-IsTurn-one ds ts from size position next lt n = record {
-  begins = omega arith;
-  within = lt;
-  next = n.subtotal;
-  place = n.place;
-  same = λ op p le ge.
-      let e : p ≡ position = omega arith in
-      ap₂ (λ i z. rest_of ds op (drop i ts) z) (sym n.place) (ap (sum_at ds (term_of ts from.place) from.sum) e ∙ sym n.sum);
-}
-
--- a turn of so many positions, behind the last term
-pub IsTurn-last : (ds : List Domain) (ts : List Term) (from : Subtotal) (size position steps : ℕ) (next : Subtotal) (factor : ℤ) → position < size → steps ≤ size - 1 - position → IsNextSubtotal ds ts from position next → length ts ≤ next.place
-    → factor ≡ (term_of ts from.place).factor → IsAlike next.sum factor steps → IsTurn ds ts from size position (record { last = position + steps; next = next })
-IsTurn-last ds ts from size position steps next factor lt few n past e alike = record {
-  begins = omega arith;
-  within = omega arith;
-  next = n.subtotal;
-  place = n.place;
-  same = λ op p le ge.
-      let t = term_of ts from.place in
-      let k : position + (p - position) ≡ p = omega arith in
-      let none : drop (from.place + 1) ts ≡ [] = drop_all (from.place + 1) ts (omega (arith, n.place)) in
-      let none_next : drop next.place ts ≡ [] = drop_all next.place ts past in
-      let sum : sum_at ds t from.sum p ≡ next.sum +ℤ factor *ℤ pos (p - position) =
-      ap (sum_at ds t from.sum) (sym k) ∙ sum_further ds t from.sum position (p - position) ∙ ap₂ (λ x y. x +ℤ y *ℤ pos (p - position)) (sym n.sum) (sym e) in
-      ap (λ xs. rest_of ds op xs (sum_at ds t from.sum p)) none
-      ∙ rest_end ds op (sum_at ds t from.sum p) next.sum (ap (meets_zero op) sum ∙ alike op (p - position) (omega arith))
-      ∙ ap (λ xs. rest_of ds op xs next.sum) (sym none_next);
-}
 
 -- a product and a sum as they are reckoned
 pub product_is : (f c code : ℤ) → FitsSigned w64 f → FitsSigned w64 c → c ≡ code → to_z w64 (of_z w64 f) *ℤ to_z w64 (of_z w64 c) ≡ f *ℤ code

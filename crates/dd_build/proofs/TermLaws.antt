@@ -5,12 +5,12 @@ use Rattle.std.specs.Ordering.{int_eq}
 use Rattle.std.proofs.lemmas.Bool.{eqb-true}
 use Rattle.std.proofs.lemmas.Int.{ints}
 use Rattle.std.proofs.Math.IntN.{zero-*ℤ, *ℤ-zero}
-use Rattle.scr_spec.specs.declared.spec.Domain.{Domain}
-use Rattle.scr_formula.specs.declared.formula.Term.{Term}
-use Rattle.scr_formula.specs.Truth.{Valuation, terms_value}
-use Rattle.scr_formula.proofs.Totals.{total, fold_total, total-append, term_value}
+use Rattle.dd_formula.specs.declared.domain.Domain.{Domain}
+use Rattle.dd_formula.specs.declared.formula.Term.{Term}
+use Rattle.dd_formula.specs.Truth.{Valuation, terms_value}
+use Rattle.dd_formula.proofs.Totals.{total, fold_total, total-append, term_value}
 use Rattle.dd_build.specs.Atoms.{bound_of}
-use Rattle.dd_build.specs.Sums.{factor_of, own_factor, term_at, ordered_from, AreOrderedTerms}
+use Rattle.dd_build.specs.Sums.{factor_of, own_factor, term_with, term_at, ordered_from, IsNextLevel, AreOrderedTerms}
 use Rattle.dd_build.proofs.Integers.{sum_times}
 
 -- the value of terms is their total
@@ -131,31 +131,59 @@ ordered-ordered ds ts l (suc n) m e = by (int_eq (own_factor ds ts l) (pos 0)) r
 pub ordered_ordered : (ds : List Domain) (ts : List Term) → AreOrderedTerms 0 (length ds) (ordered_from ds ts 0 (length ds))
 ordered_ordered ds ts = ordered-ordered ds ts 0 (length ds) (length ds) (omega arith)
 
--- the term of a level with factor 0
-term_at-none : (ds : List Domain) (ts : List Term) (l : ℕ) → own_factor ds ts l ≡ pos 0 → term_at ds ts l ≡ []
-term_at-none ds ts l e = ap (λ z. cond (int_eq z (pos 0)) [] (record { factor = z; level = l } ∷ [])) e
+-- a level that no term names
+factor_none : (l : ℕ) (ts : List Term) → IsNextLevel l ts (l + 1) → factor_of l ts ≡ pos 0
+factor_none l [] h = refl
+factor_none l (t ∷ ts) h =
+    let later = h.none 0 (omega arith) in
+    let own : cond (eqb t.level l) t.factor (pos 0) ≡ pos 0 = grind arith in
+    let rest = factor_none l ts (record { none = λ i lt le. h.none (suc i) (omega arith) le }) in
+    omega (arith, ints, own, rest)
 
--- and of one with another
-term_at-some : (ds : List Domain) (ts : List Term) (l : ℕ) → (own_factor ds ts l ≡ pos 0 → ⊥) → term_at ds ts l ≡ record { factor = own_factor ds ts l; level = l } ∷ []
-term_at-some ds ts l ne = by (int_eq (own_factor ds ts l) (pos 0)) refl
+-- has no term
+term_at-none : (ds : List Domain) (ts : List Term) (l : ℕ) → IsNextLevel l ts (l + 1) → term_at ds ts l ≡ []
+term_at-none ds ts l h = ap (λ z. term_with z l) (by (eqb (bound_of ds l) 0))
   where
-    by : (b : Bool) → int_eq (own_factor ds ts l) (pos 0) ≡ b → cond {A = List Term} b [] (record { factor = own_factor ds ts l; level = l } ∷ []) ≡ record { factor = own_factor ds ts l; level = l } ∷ []
-    by true q = absurd (ne (eq_zero (own_factor ds ts l) q))
-    by false q = refl
+    by : (b : Bool) → cond b (pos 0) (factor_of l ts) ≡ pos 0
+    by true = refl
+    by false = factor_none l ts h
+
+-- so of several
+skip : (ds : List Domain) (ts : List Term) (l k n : ℕ) → IsNextLevel l ts (l + k) → ordered_from ds ts l (k + n) ≡ ordered_from ds ts (l + k) n
+skip ds ts l zero n h =
+    let none : l ≡ l + 0 = omega arith in
+    let all : 0 + n ≡ n = omega arith in
+    ap (ordered_from ds ts l) all ∙ ap (λ i. ordered_from ds ts i n) none
+skip ds ts l (suc k) n h =
+    let more : suc k + n ≡ suc (k + n) = omega arith in
+    let next : (l + 1) + k ≡ l + suc k = omega arith in
+    let first : IsNextLevel l ts (l + 1) = record { none = λ i lt le. let far = h.none i lt le in omega (arith, far) } in
+    let others : IsNextLevel (l + 1) ts ((l + 1) + k) = record { none = λ i lt le. let far = h.none i lt (omega arith) in omega (arith, far) } in
+    ap (ordered_from ds ts l) more
+    ∙ ap (λ xs. xs ++ ordered_from ds ts (l + 1) (k + n)) (term_at-none ds ts l first)
+    ∙ skip ds ts (l + 1) k n others ∙ ap (λ i. ordered_from ds ts i n) next
+
+-- up to the next level that a term names
+skip_to : (ds : List Domain) (ts : List Term) (l next n : ℕ) → l ≤ next → next ≤ n → IsNextLevel l ts next → ordered_from ds ts l (n - l) ≡ ordered_from ds ts next (n - next)
+skip_to ds ts l next n le ge h =
+    let k = next - l in
+    let there : l + k ≡ next = omega arith in
+    let left : n - l ≡ k + (n - next) = omega arith in
+    ap (ordered_from ds ts l) left ∙ skip ds ts l k (n - next) (subst (IsNextLevel l ts) (sym there) h) ∙ ap (λ i. ordered_from ds ts i (n - next)) there
 
 -- the levels that are left
 cut_at : (ds : List Domain) (ts : List Term) (l n : ℕ) → l < n → ordered_from ds ts l (n - l) ≡ term_at ds ts l ++ ordered_from ds ts (l + 1) (n - (l + 1))
 cut_at ds ts l n lt = let e : n - l ≡ suc (n - (l + 1)) = omega arith in ap (ordered_from ds ts l) e
 
--- a level without a term is done
-pub done_none : (ds : List Domain) (ts out whole : List Term) (l n : ℕ) → l < n → out ++ ordered_from ds ts l (n - l) ≡ whole → own_factor ds ts l ≡ pos 0 → out ++ ordered_from ds ts (l + 1) (n - (l + 1)) ≡ whole
-done_none ds ts out whole l n lt h e = ap (λ xs. out ++ xs) (sym (cut_at ds ts l n lt ∙ ap (λ xs. xs ++ ordered_from ds ts (l + 1) (n - (l + 1))) (term_at-none ds ts l e))) ∙ h
+-- no level is done before the first that a term names
+pub done_none : (ds : List Domain) (ts : List Term) (next n : ℕ) → next ≤ n → IsNextLevel 0 ts next → [] ++ ordered_from ds ts next (n - next) ≡ ordered_from ds ts 0 n
+done_none ds ts next n le h = let all : n - 0 ≡ n = omega arith in sym (skip_to ds ts 0 next n (omega arith) le h) ∙ ap (ordered_from ds ts 0) all
 
--- and one with a term
-pub done_some : (ds : List Domain) (ts out more whole : List Term) (l n : ℕ) (f : ℤ) → l < n → out ++ ordered_from ds ts l (n - l) ≡ whole → (own_factor ds ts l ≡ pos 0 → ⊥) → f ≡ own_factor ds ts l → more ≡ out ++ record { factor = f; level = l } ∷ []
-    → more ++ ordered_from ds ts (l + 1) (n - (l + 1)) ≡ whole
-done_some ds ts out more whole l n f lt h ne e grown =
-    let rest = ordered_from ds ts (l + 1) (n - (l + 1)) in
-    ap (λ xs. xs ++ rest) (grown ∙ ap (λ z. out ++ record { factor = z; level = l } ∷ []) e)
-    ∙ append_assoc out (record { factor = own_factor ds ts l; level = l } ∷ []) rest
-    ∙ ap (λ xs. out ++ xs) (sym (cut_at ds ts l n lt ∙ ap (λ xs. xs ++ rest) (term_at-some ds ts l ne))) ∙ h
+-- a level is done, and those up to the next that a term names
+pub done_one : (ds : List Domain) (ts out more whole : List Term) (l next n : ℕ) (f : ℤ) → l < n → l + 1 ≤ next → next ≤ n → IsNextLevel (l + 1) ts next → out ++ ordered_from ds ts l (n - l) ≡ whole → f ≡ own_factor ds ts l → more ≡ out ++ term_with f l
+    → more ++ ordered_from ds ts next (n - next) ≡ whole
+done_one ds ts out more whole l next n f lt le ge next_is h e grown =
+    let rest = ordered_from ds ts next (n - next) in
+    ap (λ xs. xs ++ rest) (grown ∙ ap (λ z. out ++ term_with z l) e)
+    ∙ append_assoc out (term_at ds ts l) rest
+    ∙ ap (λ xs. out ++ xs) (sym (cut_at ds ts l n lt ∙ ap (λ xs. term_at ds ts l ++ xs) (skip_to ds ts (l + 1) next n le ge next_is))) ∙ h

@@ -1,17 +1,14 @@
 -- The sum of an atom with one term for each level, in the order of the levels, and what is left of it.
 use Rattle.std.specs.Prelude.{◌≡◌, ◌≢◌, ℕ, zero, suc, ◌+◌, ◌<◌, ◌≤◌, ◌^◌, ℤ, pos, ◌+ℤ◌, ◌*ℤ◌, unsigned_abs, ◌==◌, if◌then◌else◌, List, [], ◌∷◌, ◌++◌, length, drop, slice_index_or, sum_by}
-use Rattle.std.specs.List.{AllByRecursion}
 use Rattle.std.specs.Ordering.{int_eq}
-use Rattle.scr_spec.specs.declared.spec.Domain.{Domain}
-use Rattle.scr_formula.specs.declared.formula.Op.{Op}
-use Rattle.scr_formula.specs.declared.formula.Term.{Term}
-use Rattle.scr_formula.specs.Truth.{terms_value, meets_zero}
+use Rattle.dd_formula.specs.declared.domain.Domain.{Domain}
+use Rattle.dd_formula.specs.declared.formula.Op.{Op}
+use Rattle.dd_formula.specs.declared.formula.Term.{Term}
+use Rattle.dd_formula.specs.Truth.{terms_value, meets_zero}
 use Rattle.dd_tree.specs.Tree.{Tree}
 use Rattle.dd_tree.specs.Function.{tree_of}
 use Rattle.dd_store.specs.Domains.{sizes_of, code_at}
-use Rattle.dd_store.specs.Held.{Held, Has}
-use Rattle.dd_build.specs.declared.linear.Subtotal.{Subtotal}
-use Rattle.dd_build.specs.declared.linear.Turn.{Turn}
+use Rattle.dd_build.specs.declared.interval.Subtotal.{Subtotal}
 use Rattle.dd_build.specs.Atoms.{codes_at, bound_of, term_measure}
 
 -- the sum of the factors of a level's terms
@@ -28,14 +25,26 @@ factors_bound level (t ∷ ts) = (if t.level == level then unsigned_abs t.factor
 abbrev pub own_factor : List Domain → List Term → ℕ → ℤ
 own_factor ds ts level = if bound_of ds level == 0 then pos 0 else factor_of level ts
 
+-- a term with a factor, if it is not 0
+abbrev pub term_with : ℤ → ℕ → List Term
+term_with factor level = if int_eq factor (pos 0) then [] else (record { factor = factor; level = level } ∷ [])
+
 -- a term for the level, if its factor is not 0
 abbrev pub term_at : List Domain → List Term → ℕ → List Term
-term_at ds ts level = if int_eq (own_factor ds ts level) (pos 0) then [] else (record { factor = own_factor ds ts level; level = level } ∷ [])
+term_at ds ts level = term_with (own_factor ds ts level) level
 
 -- a term for each of n levels, from one on
 abbrev pub ordered_from : List Domain → List Term → ℕ → ℕ → List Term
 ordered_from ds ts level zero = []
 ordered_from ds ts level (suc n) = term_at ds ts level ++ ordered_from ds ts (level + 1) n
+
+-- the term at a place
+abbrev pub term_of : List Term → ℕ → Term
+term_of ts place = slice_index_or ts place (record { factor = pos 0; level = 0 })
+
+-- no term names a level from one on and before the next
+pub record IsNextLevel (level : ℕ) (ts : List Term) (next : ℕ) : Type 0 where
+  pub none : (i : ℕ) → i < length ts → level ≤ (term_of ts i).level → next ≤ (term_of ts i).level
 
 -- levels rise from k on and are below n, and no factor is 0
 abbrev pub AreOrderedTerms : ℕ → ℕ → List Term → Type 0
@@ -54,10 +63,6 @@ rest_at ds op ts from = rest_of ds op (drop from.place ts) from.sum
 abbrev pub sum_at : List Domain → Term → ℤ → ℕ → ℤ
 sum_at ds t s position = s +ℤ t.factor *ℤ code_at ds t.level position
 
--- the term at a place
-abbrev pub term_of : List Term → ℕ → Term
-term_of ts place = slice_index_or ts place (record { factor = pos 0; level = 0 })
-
 -- the place is one of the terms or behind them, and with what is left the sum stays below 2 to the power of 62
 pub record IsSubtotal (ds : List Domain) (ts : List Term) (from : Subtotal) : Type 0 where
   pub within : from.place ≤ length ts
@@ -68,19 +73,3 @@ pub record IsNextSubtotal (ds : List Domain) (ts : List Term) (from : Subtotal) 
   pub place : next.place ≡ from.place + 1
   pub sum : next.sum ≡ sum_at ds (term_of ts from.place) from.sum position
   pub subtotal : IsSubtotal ds ts next
-
--- so many steps further the sum compares with 0 as it does here
-abbrev pub IsAlike : ℤ → ℤ → ℕ → Type 0
-IsAlike s factor steps = (op : Op) (k : ℕ) → k ≤ steps → meets_zero op (s +ℤ factor *ℤ pos k) ≡ meets_zero op s
-
--- at each position from this one to the turn's last, what is left is the tree of the next subtotal
-pub record IsTurn (ds : List Domain) (ts : List Term) (from : Subtotal) (size position : ℕ) (turn : Turn) : Type 0 where
-  pub begins : position ≤ turn.last
-  pub within : turn.last < size
-  pub next : IsSubtotal ds ts turn.next
-  pub place : turn.next.place ≡ from.place + 1
-  pub same : (op : Op) (p : ℕ) → position ≤ p → p ≤ turn.last → rest_of ds op (drop (from.place + 1) ts) (sum_at ds (term_of ts from.place) from.sum p) ≡ rest_at ds op ts turn.next
-
--- each number has the tree of its subtotal
-abbrev pub AreShared : Held → Op → List Term → List (Subtotal × ℕ) → Type 0
-AreShared held op ts entries = AllByRecursion (λ e. Has held e.1 (rest_at held.domains op ts e.0)) entries

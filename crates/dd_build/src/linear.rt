@@ -1,32 +1,27 @@
 //! The tree of a linear equation or inequality.
+//!
+//! For each place in its terms the subtotals fall into intervals, over which what is left is one tree
+//! (Abío, Nieuwenhuis, Oliveras, Rodríguez-Carbonell and Mayer-Eichberger, "A New Look at BDDs for
+//! Pseudo-Boolean Constraints", JAIR 2012). So each tree is made once, by its runs.
 
-ghost use Rattle.std.specs.Prelude.{◌≡◌, ◌≢◌, ◌<◌, ◌≤◌, pos, length, slice_index, IfOk, OnOk, OnErr};
-ghost use Rattle.scr_formula.specs.Truth.{meets_zero};
+ghost use Rattle.std.specs.Prelude.{◌≡◌, ◌≢◌, ◌<◌, ◌≤◌, ◌^◌, pos, unsigned_abs, length, slice_index, IfOk, OnOk, OnErr};
+ghost use Rattle.dd_formula.specs.Truth.{meets_zero};
 ghost use Rattle.dd_store.specs.Held.{sizes};
 ghost use Rattle.dd_store.specs.Kept.{IsHeld};
 ghost use Rattle.dd_build.specs.Built.{Keeps, IsOver, IsBuilt, IsWithin};
 ghost use Rattle.dd_build.specs.Atoms.{atom_of, IsAtomOver};
-ghost use Rattle.dd_build.specs.Sums.{AreOrderedTerms, rest_at, IsSubtotal, IsNextSubtotal, IsAlike, term_of, IsTurn, AreShared};
+ghost use Rattle.dd_build.specs.Sums.{AreOrderedTerms, rest_at, IsSubtotal, IsNextSubtotal, term_of};
+ghost use Rattle.dd_build.specs.Intervals.{IsSteady, IsAlike, IsInRoom, IsWithinBoth, AreIntervals};
 
+use crate::interval::{Intervals, Rest, Room, Subtotal, find, keep};
 use crate::reading::size_at;
 use crate::terms::ordered_terms;
+use dd_formula::{Linear, Op, Term};
 use dd_store::{Id, Store, StoreFault, Stretch};
-use indexmap::IndexMap;
-use scr_formula::{Linear, Op, Term};
+use std::collections::BTreeMap;
 
-/// A place in a list of terms, and the sum of the constant and the terms before it.
-#[derive(Clone, Copy, Debug, PartialEq, Eq, Hash)]
-struct Subtotal {
-    place: usize,
-    sum: i64,
-}
-
-/// Positions up to a last one, over which what is left of a sum is the same.
-#[derive(Clone, Copy, Debug)]
-struct Turn {
-    last: usize,
-    next: Subtotal,
-}
+/// No sum of an atom is so far from 0.
+const FAR: u64 = 1 << 62;
 
 /// Whether a sum compares with 0 as the operation asks.
 fn meets(op: Op, sum: i64) -> bool
@@ -38,20 +33,56 @@ fn meets(op: Op, sum: i64) -> bool
     }
 }
 
-/// How many steps of a factor, up to a limit, leave a sum its sign.
-fn steps_alike(sum: i64, factor: i64, limit: usize) -> usize
+/// How far a sum compares with 0 alike.
+fn room_alike(op: Op, sum: i64) -> Room
+    ensures { IsAlike op sum result }
+{
+    let size = sum.unsigned_abs();
+    if sum > 0 {
+        return Room {
+            below: size - 1,
+            above: FAR,
+        };
+    }
+    match op {
+        Op::Le => Room {
+            below: FAR,
+            above: size,
+        },
+        Op::Eq if size == 0 => Room { below: 0, above: 0 },
+        Op::Eq => Room {
+            below: FAR,
+            above: size - 1,
+        },
+    }
+}
+
+/// How many steps of a factor, up to a limit, stay in a room.
+fn steps_within(room: Room, factor: i64, limit: usize) -> usize
     requires { factor ≢ pos 0 }
     ensures within { result ≤ limit }
-    ensures alike { IsAlike sum factor result }
+    ensures in_room { IsInRoom room factor result }
 {
-    if sum == 0 {
-        return 0;
+    let length = if factor > 0 { room.above } else { room.below };
+    limit.min((length / factor.unsigned_abs()) as usize)
+}
+
+/// A room within another one and within that of a child, which so many steps of a factor stay in.
+fn within_both(room: Room, child: Room, factor: i64, steps: usize) -> Room
+    requires { IsInRoom child factor steps }
+    ensures { IsWithinBoth room child factor steps result }
+{
+    let moved = factor.unsigned_abs() * steps as u64;
+    if factor > 0 {
+        return Room {
+            below: room.below.min(child.below),
+            above: room.above.min(child.above - moved),
+        };
     }
-    if (sum < 0) == (factor < 0) {
-        return limit;
+    Room {
+        below: room.below.min(child.below - moved),
+        above: room.above.min(child.above),
     }
-    let steps = (sum.unsigned_abs() - 1) / factor.unsigned_abs();
-    limit.min(steps as usize)
 }
 
 /// The subtotal with the term at a position of its level.
@@ -69,70 +100,56 @@ fn next_subtotal(store: &Store, terms: &[Term], from: Subtotal, position: usize)
     }
 }
 
-/// The subtotal after a position of the level of the term at a place, and how far what is left stays the
-/// same: behind the last term as long as the sum keeps its sign, else at no other position.
-fn turn_at(store: &Store, terms: &[Term], from: Subtotal, size: usize, position: usize) -> Turn
-    requires ordered { AreOrderedTerms 0 (length store.now.domains) terms.now }
-    requires from { IsSubtotal store.now.domains terms.now from }
-    requires left { from.place < length terms.now }
-    requires size { size ≡ slice_index (sizes store.now) (term_of terms.now from.place).level }
-    requires inside { position < size }
-    ensures { IsTurn store.now.domains terms.now from size position result }
-{
-    let next = next_subtotal(store, terms, from, position);
-    if next.place < terms.len() {
-        return Turn {
-            last: position,
-            next,
-        };
-    }
-    let steps = steps_alike(next.sum, terms[from.place].factor, size - 1 - position);
-    Turn {
-        last: position + steps,
-        next,
-    }
-}
-
-/// The tree of what is left of a sum after a subtotal.
+/// The tree of what is left of a sum after a subtotal, and how far it stays.
 fn rest(
     store: &mut Store,
-    shared: &mut IndexMap<Subtotal, Id>,
+    intervals: &mut Intervals,
     terms: &[Term],
     op: Op,
     from: Subtotal,
-) -> Result<Id, StoreFault>
+) -> Result<Rest, StoreFault>
     requires held { IsHeld store.old }
     requires ordered { AreOrderedTerms 0 (length store.old.domains) terms.now }
     requires from { IsSubtotal store.old.domains terms.now from }
-    requires shared { AreShared store.old op terms.now shared.old.entries }
-    ensures built { IfOk result (IsBuilt store.old store.new (rest_at store.old.domains op terms.now from)) }
+    requires intervals { AreIntervals store.old op terms.now intervals.old.entries }
+    ensures built { IfOk result (λ rest. IsBuilt store.old store.new (rest_at store.old.domains op terms.now from) rest.id) }
+    ensures steady { IfOk result (λ rest. IsSteady store.old.domains op terms.now from rest.room) }
     ensures full { result ≡ Err StoreFault.Full → IsOver store.old (rest_at store.old.domains op terms.now from) }
     ensures within { OnErr result (IsWithin store.old store.new (rest_at store.old.domains op terms.now from)) }
     ensures keeps { Keeps store.old store.new }
-    ensures shared { OnOk result (AreShared store.new op terms.now shared.new.entries) }
+    ensures intervals { OnOk result (AreIntervals store.new op terms.now intervals.new.entries) }
 {
     if from.place == terms.len() {
-        return Ok(Store::leaf(meets(op, from.sum)));
+        return Ok(Rest {
+            id: Store::leaf(meets(op, from.sum)),
+            room: room_alike(op, from.sum),
+        });
     }
-    if let Some(id) = shared.get(&from) {
-        return Ok(*id);
+    if let Some(known) = find(intervals, from) {
+        return Ok(known);
     }
-    let level = terms[from.place].level;
+    let Term { factor, level } = terms[from.place];
     let size = size_at(store, level);
     let mut runs = Vec::new(store.allocator());
+    let mut room = Room {
+        below: FAR,
+        above: FAR,
+    };
     let mut position = 0;
     while position < size {
-        let turn = turn_at(store, terms, from, size, position);
-        let child = rest(store, shared, terms, op, turn.next)?;
+        let next = next_subtotal(store, terms, from, position);
+        let child = rest(store, intervals, terms, op, next)?;
+        let steps = steps_within(child.room, factor, size - 1 - position);
+        room = within_both(room, child.room, factor, steps);
         runs.push(Stretch {
-            last: turn.last as u32,
-            child,
+            last: (position + steps) as u32,
+            child: child.id,
         })?;
-        position = turn.last + 1;
+        position = position + steps + 1;
     }
     let id = store.mk(level, runs.as_slice())?;
-    shared.insert(from, id)?;
-    Ok(id)
+    keep(intervals, from, Rest { id, room })?;
+    Ok(Rest { id, room })
 }
 
 /// The tree of an atom.
@@ -144,10 +161,11 @@ pub fn atom(store: &mut Store, a: &Linear) -> Result<Id, StoreFault>
     ensures keeps { Keeps store.old store.new }
 {
     let terms = ordered_terms(store, a.terms.as_slice())?;
-    let mut shared = IndexMap::new(store.allocator());
+    let mut intervals = BTreeMap::new(store.allocator());
     let from = Subtotal {
         place: 0,
         sum: a.constant,
     };
-    rest(store, &mut shared, terms.as_slice(), a.op, from)
+    let whole = rest(store, &mut intervals, terms.as_slice(), a.op, from)?;
+    Ok(whole.id)
 }

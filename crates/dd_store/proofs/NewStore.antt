@@ -1,7 +1,7 @@
 -- A new store.
 use Rattle.std.proofs.Common.{◌≡◌, ℕ, zero, suc, ◌<◌, ◌≤◌, List, [], ◌∷◌, length, get_or, refl, ap₂, arith}
 use Rattle.std.specs.List.{All}
-use Rattle.scr_spec.specs.declared.spec.Domain.{Domain}
+use Rattle.dd_formula.specs.declared.domain.Domain.{Domain}
 use Rattle.dd_store.specs.Domains.{sizes_of, IsDomain}
 use Rattle.dd_store.specs.declared.memo.MemoKey.{MemoKey}
 use Rattle.dd_store.specs.Held.{Node, Held, leaves, trees}

@@ -1,6 +1,6 @@
 -- What a contract sees of a store: its levels, its limit, its trees and its memo.
 use Rattle.std.specs.Prelude.{◌≡◌, ℕ, ◌<◌, true, false, List, [], ◌∷◌, ◌++◌, length, slice_index_or, map}
-use Rattle.scr_spec.specs.declared.spec.Domain.{Domain}
+use Rattle.dd_formula.specs.declared.domain.Domain.{Domain}
 use Rattle.dd_tree.specs.Tree.{Tree, leaf, split, branches}
 use Rattle.dd_store.specs.declared.memo.MemoKey.{MemoKey}
 use Rattle.dd_store.specs.Domains.{sizes_of}

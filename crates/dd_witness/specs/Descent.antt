@@ -1,6 +1,6 @@
 -- The descent through a tree that finds the least valuation.
 use Rattle.std.specs.Prelude.{◌≡◌, ◌≢◌, ℕ, ℤ, ◌<◌, ◌≤◌, false, List, length, slice_index_or}
-use Rattle.scr_spec.specs.declared.spec.Domain.{Domain}
+use Rattle.dd_formula.specs.declared.domain.Domain.{Domain}
 use Rattle.dd_tree.specs.Tree.{leaf}
 use Rattle.dd_tree.specs.Ordered.{IsOrderedFrom}
 use Rattle.dd_store.specs.Domains.{low_of}

@@ -1,7 +1,7 @@
 -- The lexicographically least valuation that makes a tree true.
 use Rattle.std.specs.Prelude.{◌≡◌, ℕ, ℤ, pos, ◌<◌, ◌≤◌, ◌<ℤ◌, ◌≤ℤ◌, ◌-ℤ◌, unsigned_abs, List, length, map, slice_index_or, IsTrue, IsFalse}
 use Rattle.std.specs.List.{range_with_len}
-use Rattle.scr_spec.specs.declared.spec.Domain.{Domain}
+use Rattle.dd_formula.specs.declared.domain.Domain.{Domain}
 use Rattle.dd_tree.specs.Tree.{Tree, truth}
 use Rattle.dd_store.specs.Domains.{low_of}
 

@@ -4,10 +4,11 @@ use Rattle.std.specs.Prelude.{unsigned_abs}
 use Rattle.std.proofs.lemmas.Int.{ints, to_z-of_z, fits_signed_from_abs, unsigned_abs-mul}
 use Rattle.std.proofs.Math.Nat.{mul-le-mul_left}
 use Rattle.scr_spec.specs.Data.{Data}
-use Rattle.scr_spec.specs.declared.spec.Domain.{Domain}
+use Rattle.dd_formula.specs.declared.domain.Domain.{Domain}
 use Rattle.scr_spec.specs.Meaning.{Codes, code_of}
 use Rattle.scr_spec.specs.Domains.{IsWithin, IsTyped, domain_of}
-use Rattle.scr_spec.specs.Over.{domain_bound, variable_bound}
+use Rattle.dd_formula.specs.Domains.{domain_bound}
+use Rattle.scr_spec.specs.Over.{variable_bound}
 
 -- a code of a domain is within the domain's bound
 code_bounded : (d : Domain) (code : ℤ) → IsWithin d code → unsigned_abs code ≤ domain_bound d

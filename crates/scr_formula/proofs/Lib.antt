@@ -1,14 +1,11 @@
 pub mod Terms
 pub mod Products
-pub mod Totals
-pub mod FormulaLaws
 pub mod ConditionLaws
 pub mod SideTruth
 pub mod ConditionTruth
 pub mod SideMeasure
 pub mod ConditionMeasure
 pub mod Growth
-pub mod JoinTruth
 pub mod EventTruth
 pub mod EventMeasure
 pub mod TableTruth

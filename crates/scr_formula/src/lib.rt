@@ -5,9 +5,7 @@
 mod cell;
 mod condition;
 mod event;
-mod formula;
 mod frozen;
-mod join;
 mod level;
 mod relation;
 mod side;
@@ -16,8 +14,8 @@ mod violation;
 
 pub use cell::of_cell;
 pub use condition::of_cond;
+pub use dd_formula::{Formula, Linear, Op, Term};
 pub use event::{keeps_code, of_event};
-pub use formula::{Formula, Linear, Op, Term};
 pub use frozen::only_changed;
 pub use level::level_at;
 pub use relation::{of_own, of_relation};

@@ -11,13 +11,14 @@ use Rattle.scr_spec.specs.Sound.{IsSound}
 use Rattle.scr_spec.specs.Over.{variable_bound}
 use Rattle.scr_spec.specs.Relations.{is_monitored, has_condition_table}
 use Rattle.scr_spec.proofs.Narrow.{variable_narrow}
-use Rattle.scr_formula.specs.declared.formula.Op.TheVariants.{Le}
-use Rattle.scr_formula.specs.declared.formula.Term.{Term}
-use Rattle.scr_formula.specs.declared.formula.Formula.{Formula}
+use Rattle.dd_formula.specs.declared.formula.Op.TheVariants.{Le}
+use Rattle.dd_formula.specs.declared.formula.Term.{Term}
+use Rattle.dd_formula.specs.declared.formula.Formula.{Formula}
 use Rattle.scr_formula.specs.Levels.{level_of}
-use Rattle.scr_formula.specs.Measure.{term_measure, measure, is_atom_over, all_atoms, IsOver}
+use Rattle.scr_formula.specs.Measure.{term_measure, measure, is_atom_over, IsOver}
+use Rattle.dd_formula.specs.Measure.{all_atoms}
 use Rattle.scr_formula.specs.Tables.{own_formula, relation_formula}
-use Rattle.scr_formula.proofs.FormulaLaws.{all_atoms-And}
+use Rattle.dd_formula.proofs.FormulaLaws.{all_atoms-And}
 use Rattle.scr_formula.proofs.SideMeasure.{level_of-half, own_level}
 use Rattle.scr_formula.proofs.ConditionMeasure.{neg_size, over_atom, over_not}
 use Rattle.scr_formula.proofs.EventMeasure.{over_same_code}

@@ -12,15 +12,15 @@ use Rattle.scr_text.specs.declared.memory.NoMemory.{NoMemory}
 use Rattle.scr_spec.specs.Data.{Data}
 use Rattle.scr_spec.specs.Meaning.{Codes, code_of}
 use Rattle.scr_spec.specs.Relations.{has_condition_table, meets_own, meets_relation}
-use Rattle.scr_formula.specs.declared.formula.Formula.{Formula}
-use Rattle.scr_formula.specs.declared.formula.Formula.TheVariants.{Not}
-use Rattle.scr_formula.specs.Truth.{holds_at}
+use Rattle.dd_formula.specs.declared.formula.Formula.{Formula}
+use Rattle.dd_formula.specs.declared.formula.Formula.TheVariants.{Not}
+use Rattle.dd_formula.specs.Truth.{holds_at}
 use Rattle.scr_formula.specs.Levels.{valuation_of}
 use Rattle.scr_formula.specs.Events.{same_code}
 use Rattle.scr_formula.specs.Tables.{own_formula, relation_formula}
-use Rattle.scr_formula.proofs.FormulaLaws.{holds_at-Atom, holds_at-And}
+use Rattle.dd_formula.proofs.FormulaLaws.{holds_at-Atom, holds_at-And}
 use Rattle.scr_formula.proofs.SideTruth.{level_read}
-use Rattle.scr_formula.proofs.JoinTruth.{holds_at-negation}
+use Rattle.dd_formula.proofs.JoinTruth.{holds_at-negation}
 use Rattle.scr_formula.proofs.EventTruth.{holds_at-same_code}
 use Rattle.scr_formula.proofs.TableTruth.{own_truth_ok, relation_truth_ok}
 use Rattle.scr_formula.proofs.ViolationTruth.{meets_at_most}

@@ -2,7 +2,7 @@
 ghost use Rattle.std.specs.Prelude.{◌≡◌, ◌++◌, ◌<◌, ◌≤◌, IsTrue, OnOk, IfOk, MatchOption, unsigned_abs};
 ghost use Rattle.scr_spec.specs.Shown.{data_of};
 ghost use Rattle.scr_spec.specs.Relations.{is_monitored, is_condition, has_condition_table};
-ghost use Rattle.scr_formula.specs.declared.formula.Formula.TheVariants.{Not};
+ghost use Rattle.dd_formula.specs.declared.formula.Formula.TheVariants.{Not};
 ghost use Rattle.scr_formula.specs.Measure.{IsOver};
 ghost use Rattle.scr_formula.specs.Events.{same_code};
 ghost use Rattle.scr_depend.specs.Graphs.{is_among};

@@ -1,7 +1,7 @@
 -- Lines of a file that is read in pieces.
-use Rattle.std.specs.Prelude.{◌≡◌, ℕ, ◌+◌, ◌<◌, ◌≤◌, ◌++◌, Bool, true, false, List, [], ◌∷◌, length, Option, None, Some, IfSome, nat_lt, if◌then◌else◌}
+use Rattle.std.specs.Prelude.{◌≡◌, ℕ, ◌+◌, ◌<◌, ◌≤◌, ◌++◌, Bool, true, false, List, [], ◌∷◌, length, Option, None, Some, IfSome, nat_lt, ◌==◌, if◌then◌else◌}
 use Rattle.std.specs.Io.KnownBytes.{Consumes, Keeps, prepend_known}
-use Rattle.std.specs.Io.BufRead.{take_through, strip_last}
+use Rattle.scr_text.specs.Ends.{line_with_end, without_end}
 use Rattle.scr_io.specs.declared.first_line.TheConstants.{LINE_LIMIT}
 use Rattle.scr_io.specs.declared.lines.Piece.{Piece}
 use Rattle.scr_io.specs.declared.lines.Piece.TheVariants.{Line, Long, Past, End}
@@ -15,13 +15,8 @@ pub record LinesState : Type 0 where
   pub line : Option (List ℕ)
   pub live : Bool
 
--- the first line with its end: through the first line feed, or all
-abbrev pub line_with_end : List ℕ → List ℕ
-line_with_end rest = take_through 10 rest
-
--- a line without its end: without a line feed at its end, and then without a carriage return there
-abbrev pub without_end : List ℕ → List ℕ
-without_end line = strip_last 13 (strip_last 10 line)
+abbrev pub is_line_feed : ℕ → Bool
+is_line_feed b = b == 10
 
 -- what comes next in the rest of a file, of which so many bytes may yet be handed out
 abbrev pub next_piece : ℕ → List ℕ → Piece

@@ -1,8 +1,10 @@
 //! Where the first line of a file ends.
 ghost use Rattle.std.specs.Prelude.{◌≡◌, ◌≢◌, ◌<◌, ◌≤◌, ◌+◌, ◌-◌, ◌++◌, ◌^◌, ℕ, List, All, length, take, drop, vec_len, vec_capacity, IfSome, IfNone, IfOk, OnErr, IsOk, nat_le};
 ghost use Rattle.std.specs.Io.KnownBytes.{IsAtEnd};
+ghost use Rattle.std.specs.List.{list_any};
 ghost use Rattle.scr_io.specs.Outside.{HasRisen, TakesAtMost};
-ghost use Rattle.scr_io.specs.Line.{without_end, line_with_end, Grows};
+ghost use Rattle.scr_text.specs.Ends.{without_end, line_with_end};
+ghost use Rattle.scr_io.specs.Line.{is_line_feed, Grows};
 ghost use Rattle.scr_io.specs.Sought.{Finds};
 
 use crate::reading::{READ_SIZE, read_piece};
@@ -73,6 +75,19 @@ fn refill<S: Shelf>(buf: &mut Vec<u8>, shelf: &mut S, most: usize) -> Result<usi
     let n = read_piece(shelf, &mut piece, most)?;
     buf.extend_from_slice(&piece[..n]).unwrap();
     Ok(n)
+}
+
+fn is_line_feed(b: u8) -> bool
+    ensures { result ≡ is_line_feed b }
+{
+    b == b'\n'
+}
+
+/// Whether a line ends among the bytes.
+pub(crate) fn has_line_end(bytes: &[u8]) -> bool
+    ensures { result ≡ list_any is_line_feed bytes.now }
+{
+    bytes.iter().any(|b| is_line_feed(*b))
 }
 
 /// How a search for the end of the first line went.

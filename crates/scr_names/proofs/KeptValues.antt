@@ -5,11 +5,11 @@ use Rattle.std.specs.List.{list_all, list_any}
 use Rattle.std.proofs.lemmas.Bool.{and_parts}
 use Rattle.scr_spec.specs.declared.cond.Operand.TheVariants as made
 use Rattle.scr_spec.specs.declared.cond.Item.{Item}
-use Rattle.scr_spec.specs.declared.spec.Domain.{Domain}
+use Rattle.dd_formula.specs.declared.domain.Domain.{Domain}
 use Rattle.scr_spec.specs.declared.sort.Sort.{Sort}
 use Rattle.scr_spec.specs.declared.table.Heading.{Heading}
 use Rattle.scr_spec.specs.declared.table.Heading.TheVariants as heading
-use Rattle.scr_spec.specs.Domains.{is_within}
+use Rattle.dd_formula.specs.Domains.{is_within}
 use Rattle.scr_spec.specs.Sorts.{is_sort, variable_sort, variable_range}
 use Rattle.scr_spec.specs.Typed.{side_sort}
 use Rattle.scr_spec.specs.Formed.{is_unprimed}

@@ -15,7 +15,7 @@ use Rattle.scr_spec.specs.declared.spec.Kind.TheVariants as kind
 use Rattle.scr_spec.specs.declared.spec.Role.{Role}
 use Rattle.scr_spec.specs.declared.spec.Role.TheVariants as role
 use Rattle.scr_spec.specs.declared.spec.Variable.{Variable}
-use Rattle.scr_spec.specs.Domains.{is_within}
+use Rattle.dd_formula.specs.Domains.{is_within}
 use Rattle.scr_spec.specs.Meaning.{truth_code}
 use Rattle.scr_spec.specs.Roles.{is_monitored_role}
 use Rattle.scr_spec.specs.Sorts.{is_sort, type_sort, kind_range, constant_at}

@@ -11,7 +11,7 @@ use Rattle.scr_spec.specs.declared.sort.Sort.TheVariants as sort
 use Rattle.scr_spec.specs.declared.table.Heading.{Heading}
 use Rattle.scr_spec.specs.declared.table.Heading.TheVariants as heading
 use Rattle.scr_spec.specs.declared.spec.Constant.{Constant}
-use Rattle.scr_spec.specs.Domains.{is_within}
+use Rattle.dd_formula.specs.Domains.{is_within}
 use Rattle.scr_spec.specs.Meaning.{side_value}
 use Rattle.scr_spec.specs.Over.{item_bound, side_bound}
 use Rattle.scr_spec.specs.Sorts.{is_sort, variable_sort, variable_range}

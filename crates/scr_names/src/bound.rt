@@ -6,23 +6,17 @@ ghost use Rattle.scr_names.specs.Sides as spec;
 
 use crate::known::Known;
 use scr_reader::{DraftItem, DraftSide};
-use scr_spec::{Domain, Operand, constant_value};
+use scr_spec::{Operand, constant_value};
 
 /// The greatest bound of a side.
 const SIDE_LIMIT: u64 = 2_000_000_000;
-
-fn domain_bound(domain: Domain) -> u64
-    ensures { result ≡ over.domain_bound domain }
-{
-    domain.lo.unsigned_abs().max(domain.hi.unsigned_abs())
-}
 
 impl Known {
     fn variable_bound(&self, v: usize) -> u64
         ensures { result ≡ over.variable_bound (seen self.now) v }
     {
         match self.variables.get(v) {
-            Some(variable) => domain_bound(Domain::of_kind(self.types.as_slice(), &variable.kind)),
+            Some(variable) => variable.kind.domain(self.types.as_slice()).bound(),
             None => 0,
         }
     }

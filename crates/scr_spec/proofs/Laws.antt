@@ -1,19 +1,15 @@
 -- The truth of a condition that joins others, by the truth of each.
-use Rattle.std.specs.Prelude.{◌≡◌, Bool, List, [], ◌∷◌, ◌||◌, map, refl}
+use Rattle.std.specs.Prelude.{◌≡◌, Bool, List}
 use Rattle.std.specs.List.{list_all, list_any}
 use Rattle.std.proofs.Common.{sym, ap, ◌∙◌}
 use Rattle.std.proofs.lemmas.List.Folds.{list_all-map}
+use Rattle.dd_formula.proofs.Lists.{list_any-map}
 use Rattle.scr_spec.specs.Data.{Data}
 use Rattle.scr_spec.specs.declared.cond.Cond.{Cond, fold-roll-Cond}
 use Rattle.scr_spec.specs.declared.cond.Cond.TheVariants.{And, Or, rolls-And, rolls-Or}
 use Rattle.scr_spec.specs.declared.cond.Cond.TheOpen as layer
 use Rattle.scr_spec.specs.Meaning.{Codes, is_true, truth_step}
 use Rattle.scr_spec.specs.Over.{is_cond_over, over_step}
-
--- some mapped member passes where some member does under the map
-pub list_any-map : {X Y : Type 0} (p : X → Bool) (h : Y → X) (ys : List Y) → list_any p (map h ys) ≡ list_any (λ y. p (h y)) ys
-list_any-map p h [] = refl
-list_any-map p h (y ∷ ys) = ap (λ b. p (h y) || b) (list_any-map p h ys)
 
 -- AND is true where each member is
 pub is_true-And : (spec : Data) (at : Codes) (cs : List Cond) → is_true spec at (And cs) ≡ list_all (is_true spec at) cs

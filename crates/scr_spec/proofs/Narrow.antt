@@ -5,7 +5,7 @@ use Rattle.std.specs.Option.{option_map_or}
 use Rattle.std.specs.List.{list_all}
 use Rattle.std.proofs.lemmas.Bool.{and_parts, leb-true}
 use Rattle.std.proofs.lemmas.Int.{ints}
-use Rattle.scr_spec.specs.declared.spec.Domain.{Domain}
+use Rattle.dd_formula.specs.declared.domain.Domain.{Domain}
 use Rattle.scr_spec.specs.declared.spec.Shape.{Shape}
 use Rattle.scr_spec.specs.declared.spec.Shape.TheVariants.{Range, Labels}
 use Rattle.scr_spec.specs.declared.spec.TypeDef.{TypeDef}
@@ -16,7 +16,8 @@ use Rattle.scr_spec.specs.Data.{Data}
 use Rattle.scr_spec.specs.Sound.{IsSound}
 use Rattle.scr_spec.specs.Types.{is_narrow, is_range_sound, is_list_sound, is_shape_sound, is_type_sound, is_kind_sound}
 use Rattle.scr_spec.specs.Domains.{list_domain, shape_domain, kind_domain, no_domain}
-use Rattle.scr_spec.specs.Over.{domain_bound, variable_bound}
+use Rattle.dd_formula.specs.Domains.{domain_bound}
+use Rattle.scr_spec.specs.Over.{variable_bound}
 use Rattle.scr_spec.proofs.Lookup.{all_get}
 
 -- the places in a short list

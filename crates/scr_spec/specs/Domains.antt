@@ -1,8 +1,8 @@
 -- The codes of a variable: FALSE and TRUE are 0 and 1, an enumerator or a mode is its place in its list, and an
 -- integer is itself.
-use Rattle.std.specs.Prelude.{◌≡◌, ℕ, ◌<◌, ℤ, pos, ◌-ℤ◌, ◌≤ℤ◌, int_le, Bool, ◌&&◌, List, length, slice_get}
+use Rattle.std.specs.Prelude.{◌≡◌, ℕ, ◌<◌, ℤ, pos, ◌-ℤ◌, ◌≤ℤ◌, List, length, slice_get}
 use Rattle.std.specs.Option.{option_map_or}
-use Rattle.scr_spec.specs.declared.spec.Domain.{Domain}
+use Rattle.dd_formula.specs.declared.domain.Domain.{Domain}
 use Rattle.scr_spec.specs.declared.spec.Shape.{Shape}
 use Rattle.scr_spec.specs.declared.spec.Shape.TheVariants.{Range, Labels}
 use Rattle.scr_spec.specs.declared.spec.TypeDef.{TypeDef}
@@ -33,10 +33,6 @@ kind_domain types (Modes names) = list_domain names
 -- the least and the greatest code of a variable
 abbrev pub domain_of : Data → ℕ → Domain
 domain_of spec v = option_map_or (λ x. kind_domain spec.types x.kind) (slice_get spec.variables v) no_domain
-
--- whether the code is one of the domain
-abbrev pub is_within : Domain → ℤ → Bool
-is_within d code = int_le d.lo code && int_le code d.hi
 
 -- the code is one of the domain
 pub record IsWithin (d : Domain) (code : ℤ) : Type 0 where

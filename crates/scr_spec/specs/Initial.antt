@@ -7,7 +7,8 @@ use Rattle.scr_spec.specs.declared.spec.Kind.TheVariants.{Boolean, Named, Modes}
 use Rattle.scr_spec.specs.declared.spec.Role.{Role}
 use Rattle.scr_spec.specs.declared.spec.Variable.{Variable}
 use Rattle.scr_spec.specs.Roles.{is_class_role, is_computed_role}
-use Rattle.scr_spec.specs.Domains.{kind_domain, is_within}
+use Rattle.scr_spec.specs.Domains.{kind_domain}
+use Rattle.dd_formula.specs.Domains.{is_within}
 
 -- a monitored variable and a mode class have one
 abbrev pub is_init_there : Variable → Bool

@@ -1,9 +1,8 @@
 -- The sides and conditions that are over a specification, and the bound of a side.
-use Rattle.std.specs.Prelude.{ℕ, ◌*◌, max, ℤ, pos, unsigned_abs, int_lt, int_le, Bool, true, ◌&&◌, nat_lt, nat_le, List, [], length, sum_by, slice_get}
+use Rattle.std.specs.Prelude.{ℕ, ◌*◌, ℤ, pos, unsigned_abs, int_lt, int_le, Bool, true, ◌&&◌, nat_lt, nat_le, List, [], length, sum_by, slice_get}
 use Rattle.std.specs.Option.{option_map_or}
 use Rattle.std.specs.List.{list_all}
 use Rattle.scr_spec.specs.Data.{Data}
-use Rattle.scr_spec.specs.declared.spec.Domain.{Domain}
 use Rattle.scr_spec.specs.declared.cond.Owner.{Owner}
 use Rattle.scr_spec.specs.declared.cond.Owner.TheVariants.{Named, Class}
 use Rattle.scr_spec.specs.declared.cond.Operand.{Operand}
@@ -13,12 +12,9 @@ use Rattle.scr_spec.specs.declared.cond.Expr.{Expr}
 use Rattle.scr_spec.specs.declared.cond.Cond.{Cond, fold-Cond}
 use Rattle.scr_spec.specs.declared.cond.Cond.TheOpen.{Cond-F, Truth, Holds, Compare, Not, And, Or}
 use Rattle.scr_spec.specs.Types.{shape_labels, kind_modes}
+use Rattle.dd_formula.specs.Domains.{domain_bound}
 use Rattle.scr_spec.specs.Domains.{domain_of}
 use Rattle.scr_spec.specs.Meaning.{constant_value}
-
--- the greatest absolute value in a domain
-abbrev pub domain_bound : Domain → ℕ
-domain_bound d = max (unsigned_abs d.lo) (unsigned_abs d.hi)
 
 -- the greatest absolute code of a variable
 abbrev pub variable_bound : Data → ℕ → ℕ

@@ -5,7 +5,7 @@ use Rattle.scr_spec.specs.declared.cond.Owner.{Owner}
 use Rattle.scr_spec.specs.declared.cond.Owner.TheVariants as owner
 use Rattle.scr_spec.specs.declared.sort.Sort.{Sort}
 use Rattle.scr_spec.specs.declared.sort.Sort.TheVariants as sort
-use Rattle.scr_spec.specs.declared.spec.Domain.{Domain}
+use Rattle.dd_formula.specs.declared.domain.Domain.{Domain}
 use Rattle.scr_spec.specs.declared.spec.Shape.{Shape}
 use Rattle.scr_spec.specs.declared.spec.Shape.TheVariants.{Range, Labels}
 use Rattle.scr_spec.specs.declared.spec.TypeDef.{TypeDef}

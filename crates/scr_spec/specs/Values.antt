@@ -10,7 +10,7 @@ use Rattle.scr_spec.specs.declared.table.Heading.TheVariants.{Condition, Event, 
 use Rattle.scr_spec.specs.declared.table.Table.{Table}
 use Rattle.scr_spec.specs.Data.{Data}
 use Rattle.scr_spec.specs.Sorts.{is_sort, variable_sort, variable_range}
-use Rattle.scr_spec.specs.Domains.{is_within}
+use Rattle.dd_formula.specs.Domains.{is_within}
 use Rattle.scr_spec.specs.Meaning.{side_value}
 use Rattle.scr_spec.specs.Typed.{side_sort}
 use Rattle.scr_spec.specs.Formed.{is_side_formed, is_side_plain}

@@ -11,11 +11,12 @@ mod table;
 mod variables;
 
 pub use cond::{Cond, Expr, Item, Operand, Owner};
+pub use dd_formula::Domain;
 pub use law::bounded_depth;
 pub use numbers::{
     constant_value, kind_range, kind_sort, type_range, type_sort, variable_range, variable_sort,
 };
 pub use sort::Sort;
-pub use spec::{Constant, Domain, Kind, Role, Shape, Spec, TypeDef, Variable};
+pub use spec::{Constant, Kind, Role, Shape, Spec, TypeDef, Variable};
 pub use state::{Input, State};
 pub use table::{Cell, Change, Event, Heading, Primitive, Row, Table};

@@ -4,7 +4,8 @@ ghost use Rattle.scr_spec.specs.Sorts as spec;
 
 use crate::cond::Owner;
 use crate::sort::Sort;
-use crate::spec::{Constant, Domain, Kind, Shape, TypeDef, Variable};
+use crate::spec::{Constant, Kind, Shape, TypeDef, Variable};
+use dd_formula::Domain;
 
 impl Shape {
     /// The range of a type of integers.

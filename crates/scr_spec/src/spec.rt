@@ -4,15 +4,9 @@ ghost use Rattle.scr_spec.specs.Domains.{list_domain, shape_domain, kind_domain}
 ghost use Rattle.scr_spec.specs.Sound.{IsSound};
 
 use crate::table::Table;
+use dd_formula::Domain;
 use scr_text::Name;
 use sqlite_items::Items;
-
-/// The codes from `lo` to `hi`.
-#[derive(Clone, Copy, Debug, PartialEq, Eq)]
-pub struct Domain {
-    pub lo: i64,
-    pub hi: i64,
-}
 
 /// What a variable is for. `Mode` is a mode class.
 #[derive(Clone, Copy, Debug, PartialEq, Eq)]
@@ -108,49 +102,40 @@ impl Role {
     }
 }
 
-impl Domain {
-    /// The places in a list of names.
-    fn of_list(names: &[Name]) -> Domain
-        ensures { result ≡ list_domain names.now }
-    {
-        Domain {
-            lo: 0,
-            hi: names.len() as i64 - 1,
-        }
+/// The places in a list of names.
+fn places_of(names: &[Name]) -> Domain
+    ensures { result ≡ list_domain names.now }
+{
+    Domain {
+        lo: 0,
+        hi: names.len() as i64 - 1,
     }
+}
 
-    fn of_shape(shape: &Shape) -> Domain
-        ensures { result ≡ shape_domain shape.now }
+impl Shape {
+    fn domain(&self) -> Domain
+        ensures { result ≡ shape_domain self.now }
     {
-        match shape {
+        match self {
             Shape::Range(domain) => *domain,
-            Shape::Labels(names) => Domain::of_list(names.as_slice()),
-        }
-    }
-
-    /// The codes of a kind of variable. A type that is not there has the code 0 alone.
-    pub fn of_kind(types: &[TypeDef], kind: &Kind) -> Domain
-        ensures { result ≡ kind_domain types.now kind.now }
-    {
-        match kind {
-            Kind::Boolean => Domain { lo: 0, hi: 1 },
-            Kind::Named(k) => match types.get(*k) {
-                Some(declared) => Domain::of_shape(&declared.shape),
-                None => Domain { lo: 0, hi: 0 },
-            },
-            Kind::Modes(names) => Domain::of_list(names.as_slice()),
+            Shape::Labels(names) => places_of(names.as_slice()),
         }
     }
 }
 
-impl Domain {
-    ghost use Rattle.scr_spec.specs.Domains.{is_within};
-
-    /// Whether the code is from `lo` to `hi`.
-    pub fn contains(&self, code: i64) -> bool
-        ensures { result ≡ is_within self.now code }
+impl Kind {
+    /// The codes of a variable of this kind. A type that is not there has the code 0 alone.
+    pub fn domain(&self, types: &[TypeDef]) -> Domain
+        ensures { result ≡ kind_domain types.now self.now }
     {
-        self.lo <= code && code <= self.hi
+        match self {
+            Kind::Boolean => Domain { lo: 0, hi: 1 },
+            Kind::Named(k) => match types.get(*k) {
+                Some(declared) => declared.shape.domain(),
+                None => Domain { lo: 0, hi: 0 },
+            },
+            Kind::Modes(names) => places_of(names.as_slice()),
+        }
     }
 }
 
@@ -165,7 +150,9 @@ impl Spec {
         requires { v < length self.now.variables }
         ensures { result ≡ domain_of (data_of self.now) v }
     {
-        Domain::of_kind(self.types.as_slice(), &self.variables.as_slice()[v].kind)
+        self.variables.as_slice()[v]
+            .kind
+            .domain(self.types.as_slice())
     }
 
     /// The number of the variable of that name.

@@ -1,3 +1,4 @@
 pub mod Longest
 pub mod Cutting
 pub mod FirstLine
+pub mod InTurn

@@ -3,3 +3,4 @@ pub mod Piece
 pub mod Words
 pub mod Tokens
 pub mod Lexing
+pub mod Ends

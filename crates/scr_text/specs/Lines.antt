@@ -1,6 +1,7 @@
 -- The lines of a text.
-use Rattle.std.specs.Prelude.{◌≡◌, ℕ, ◌-◌, ◌<◌, ◌≤◌, ◌⊎◌, not, if◌then◌else◌, ◌==◌, List, [], ◌∷◌, length, slice_index, slice_range, take, drop, map}
+use Rattle.std.specs.Prelude.{◌≡◌, ℕ, ◌-◌, ◌<◌, ◌≤◌, ◌⊎◌, not, if◌then◌else◌, ◌==◌, List, [], ◌∷◌, length, slice_index, slice_range, drop, map}
 use Rattle.std.specs.List.{prefix_len}
+use Rattle.std.specs.Io.BufRead.{strip_last}
 
 -- a byte in front of the first piece
 abbrev pub in_front : ℕ → List (List ℕ) → List (List ℕ)
@@ -14,7 +15,7 @@ pieces (b ∷ bytes) = if b == 10 then [] ∷ pieces bytes else in_front b (piec
 
 -- the bytes without a carriage return at their end
 abbrev pub without_return : List ℕ → List ℕ
-without_return bytes = if slice_index bytes (length bytes - 1) == 13 then take (length bytes - 1) bytes else bytes
+without_return bytes = strip_last 13 bytes
 
 -- the lines, without their ends
 abbrev pub lines : List ℕ → List (List ℕ)

@@ -13,10 +13,11 @@ mod spelling;
 mod word;
 
 pub use fault::LexFault;
-pub use laws::one_lexing;
+pub use laws::{lines_in_turn, one_lexing};
 pub use lex::lex_line;
 pub use line::{Cut, cut_line, next_line};
 pub use memory::NoMemory;
 pub use name::Name;
 pub use number::push_number;
+pub use spelling::{keyword_of, number_of};
 pub use word::{Keyword, Relation, Sign, Token, Word};

@@ -88,7 +88,8 @@ fn table_word(bytes: &[u8]) -> Option<Keyword>
     }
 }
 
-fn keyword_of(bytes: &[u8]) -> Option<Keyword>
+/// The reserved word that is spelt so.
+pub fn keyword_of(bytes: &[u8]) -> Option<Keyword>
     ensures { result ≡ spec.keyword_of bytes.now }
 {
     match declaration_word(bytes) {
@@ -126,7 +127,8 @@ fn sign_of(bytes: &[u8]) -> Option<Sign>
     }
 }
 
-fn number_of(bytes: &[u8]) -> u32
+/// The number that these digits spell. Any number above 1,000,000 is told as 1,000,001.
+pub fn number_of(bytes: &[u8]) -> u32
     ensures value { result ≡ spec.number_of bytes.now }
     ensures capped { result ≤ 1000001 }
 {

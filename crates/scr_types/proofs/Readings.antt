@@ -1,10 +1,12 @@
 -- Each text spells one specification or is refused for one thing.
 use Rattle.std.proofs.Common.{◌≡◌, ℕ, List, [], ◌∷◌, Option, Some, None, refl, sym, ap, ap₂, subst, ◌∙◌}
 use Rattle.scr_spec.specs.Data.{Data}
+use Rattle.scr_spec.specs.Sound.{IsSound}
 use Rattle.scr_reader.specs.declared.draft.Numbered.{Numbered}
 use Rattle.scr_reader.specs.declared.place.TextKind.{TextKind}
 use Rattle.scr_reader.specs.Text.{TextReads}
 use Rattle.scr_reader.proofs.Outcome.{one_outcome}
+use Rattle.scr_reader.proofs.ReadableTexts.{reads_readable}
 use Rattle.scr_names.specs.declared.known.Known.{Known}
 use Rattle.scr_names.specs.Names.{Name}
 use Rattle.scr_names.specs.Meanings.{nothing, seen}
@@ -12,8 +14,9 @@ use Rattle.scr_types.specs.declared.fault.TypeKind.{TypeKind}
 use Rattle.scr_types.specs.declared.fault.TypeFault.TheVariants as type_fault
 use Rattle.scr_types.specs.Lines.{Fault, fault_in, after}
 use Rattle.scr_types.specs.Draft.{Resolves, no_more, one_more, Refused, here, later, DraftResolves, DraftRefuses}
-use Rattle.scr_types.specs.Texts.{Spells, Refusal, unread, unresolved, IsRefused, OneReading}
+use Rattle.scr_types.specs.Texts.{Spells, Refusal, unread, unresolved, IsRefused, OneReading, SpelledIsSound}
 use Rattle.scr_types.proofs.Outcome.{one_resolution}
+use Rattle.scr_types.proofs.Sound.{sound}
 
 -- ---- lines spell something or are refused
 
@@ -70,3 +73,11 @@ one_reading = record {
   apart = apart;
   some = some;
 }
+
+-- ---- what is spelled
+
+spelled_sound : (text : List ℕ) (spec : Data) → Spells text spec → IsSound spec
+spelled_sound text spec s = subst IsSound (sym s.resolves.parts) (sound s.draft s.resolves.last s.resolves.resolves (reads_readable text s.draft s.reads))
+
+pub spelled_is_sound : SpelledIsSound
+spelled_is_sound = record { sound = spelled_sound }

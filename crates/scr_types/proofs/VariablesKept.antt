@@ -22,7 +22,8 @@ use Rattle.scr_spec.specs.declared.spec.Variable.{Variable}
 use Rattle.scr_spec.specs.Data.{Data}
 use Rattle.scr_spec.specs.Roles.{is_monitored_role, is_class_role, is_computed_role}
 use Rattle.scr_spec.specs.Sorts.{is_sort, shape_range, type_range, type_sort, kind_range}
-use Rattle.scr_spec.specs.Domains.{list_domain, shape_domain, no_domain, kind_domain, is_within}
+use Rattle.scr_spec.specs.Domains.{list_domain, shape_domain, no_domain, kind_domain}
+use Rattle.dd_formula.specs.Domains.{is_within}
 use Rattle.scr_spec.specs.Types.{is_narrow, is_list_sound, is_kind_sound, is_integer_kind, is_bound_sound, shape_labels}
 use Rattle.scr_spec.specs.Over.{labels_of, is_place}
 use Rattle.scr_spec.specs.NameSpace.{is_name}

@@ -1,6 +1,7 @@
 -- What a text spells, and why it is refused.
 use Rattle.std.specs.Prelude.{◌≡◌, ℕ, List}
 use Rattle.scr_spec.specs.Data.{Data}
+use Rattle.scr_spec.specs.Sound.{IsSound}
 use Rattle.scr_reader.specs.declared.draft.Numbered.{Numbered}
 use Rattle.scr_reader.specs.declared.place.TextKind.{TextKind}
 use Rattle.scr_reader.specs.declared.place.TextFault.TheVariants as text_fault
@@ -32,3 +33,7 @@ pub record OneReading : Type 0 where
   pub one_refusal : (text : List ℕ) (r s : Refusal) → IsRefused text r → IsRefused text s → r ≡ s
   pub apart : (text : List ℕ) (spec : Data) (r : Refusal) → Spells text spec → IsRefused text r → ⊥
   pub some : (text : List ℕ) → ((spec : Data) → Spells text spec → ⊥) → ((r : Refusal) → IsRefused text r → ⊥) → ⊥
+
+-- what a text spells keeps all rules of a specification
+pub record SpelledIsSound : Type 0 where
+  pub sound : (text : List ℕ) (spec : Data) → Spells text spec → IsSound spec

@@ -12,4 +12,4 @@ mod shape;
 
 pub use fault::{TypeFault, TypeKind};
 pub use lines::{one_resolution, resolve};
-pub use reading::one_reading;
+pub use reading::{one_reading, spelled_is_sound};

@@ -1,0 +1,4 @@
+pub mod Lists
+pub mod Totals
+pub mod FormulaLaws
+pub mod JoinTruth

@@ -1,0 +1,9 @@
+-- Tests of the members of a list.
+use Rattle.std.specs.Prelude.{◌≡◌, Bool, List, [], ◌∷◌, ◌||◌, map, refl}
+use Rattle.std.specs.List.{list_any}
+use Rattle.std.proofs.Common.{ap}
+
+-- some mapped member passes where some member does under the map
+pub list_any-map : {X Y : Type 0} (p : X → Bool) (h : Y → X) (ys : List Y) → list_any p (map h ys) ≡ list_any (λ y. p (h y)) ys
+list_any-map p h [] = refl
+list_any-map p h (y ∷ ys) = ap (λ b. p (h y) || b) (list_any-map p h ys)

@@ -1,0 +1,4 @@
+pub mod Domains
+pub mod Truth
+pub mod Joined
+pub mod Measure

@@ -1,0 +1,12 @@
+pub mod Occurs
+pub mod SameTruth
+pub mod Truths
+pub mod Counting
+pub mod Answers
+pub mod Listed
+pub mod Progress
+pub mod OneLeast
+pub mod AtomTests
+pub mod LevelLaws
+pub mod SomeLeast
+pub mod Single

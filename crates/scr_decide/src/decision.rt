@@ -1,0 +1,66 @@
+//! One formula more: its listing, and whether it can be true.
+ghost use Rattle.std.specs.Prelude.{◌≡◌, IfOk, length};
+ghost use Rattle.dd_store.specs.Held.{Has};
+ghost use Rattle.dd_build.specs.Formulas.{IsFormulaOver, formula_tree};
+ghost use Rattle.scr_decide.specs.Decisions.{IsDecision, IsAnswer};
+
+use crate::witness::{Witness, witness_of};
+use dd_build::build;
+use dd_store::{Id, Store, StoreFault};
+use dd_witness::least;
+use scr_formula::Formula;
+use scr_text::NoMemory;
+use std::alloc::Global;
+
+/// What listing a formula told: that its splits are too many, that it is never true, or its witness.
+#[derive(Debug, Drop)]
+pub enum Decision {
+    Over,
+    Unsatisfiable,
+    Satisfied(Witness),
+}
+
+/// The witness of a formula whose tree is in the store.
+#[tactic(auto, using(crate::proofs::Answers::answer_laws))]
+fn answer(
+    alloc: Global,
+    store: &Store,
+    id: Id,
+    codes: &mut [i64],
+    f: &Formula,
+) -> Result<Option<Witness>, NoMemory>
+    requires has { Has store.now id (formula_tree store.now f.now) }
+    requires long { length codes.old ≡ length store.now.domains }
+    ensures answer { IfOk result (IsAnswer store.now.domains f.now) }
+    ensures long { length codes.new ≡ length codes.old }
+{
+    store.reveal();
+    if least(store, id, codes) {
+        return Ok(Some(witness_of(alloc, f, codes)?));
+    }
+    Ok(None)
+}
+
+/// Lists a formula behind those whose trees are in the store. `codes` has a place for each level.
+pub fn list_formula(
+    alloc: Global,
+    store: &mut Store,
+    codes: &mut [i64],
+    f: &Formula,
+) -> Result<Decision, NoMemory>
+    requires over { IsFormulaOver store.old.domains f.now }
+    requires long { length codes.old ≡ length store.old.domains }
+    ensures decision { IfOk result (IsDecision store.old store.new f.now) }
+    ensures domains { store.new.domains ≡ store.old.domains }
+    ensures long { length codes.new ≡ length codes.old }
+{
+    let id = match build(store, f) {
+        Ok(id) => id,
+        Err(StoreFault::Full) => return Ok(Decision::Over),
+        Err(StoreFault::NoMemory) => return Err(NoMemory),
+    };
+    match answer(alloc, store, id, codes, f)? {
+        Some(witness) => Ok(Decision::Satisfied(witness)),
+        None => Ok(Decision::Unsatisfiable),
+    }
+}
