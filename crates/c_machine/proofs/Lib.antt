@@ -1,0 +1,13 @@
+pub mod Unrolled
+pub mod Early
+pub mod Growing
+pub mod Effects
+pub mod CostLaws
+pub mod LastPlace
+pub mod Numbering
+pub mod ResolveLaws
+pub mod ValueLaw
+pub mod ActionLaw
+pub mod FunctionLaw
+pub mod Items
+pub mod Answered

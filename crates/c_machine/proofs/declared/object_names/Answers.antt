@@ -1,0 +1,16 @@
+use Rattle.std.proofs.Common.{◌++◌, take, map, sym, ap, ◌∙◌}
+use Rattle.std.specs.Option.{option_to_list}
+use Rattle.std.specs.List.{filter_map}
+use Rattle.c_subset.specs.declared.unit.CItem.{CItem}
+use Rattle.c_subset.specs.declared.unit.CObject.{CObject}
+use Rattle.c_subset.specs.Parts.{object_of}
+use Rattle.c_machine.proofs.Items.{mapped_more}
+use Rattle.c_machine.proofs.declared.object_names.Goals as goal
+
+pub loop-item-preserved : goal.loop-item-preserved
+loop-item-preserved c =
+    c.in_ok-add_object.ensures
+    ∙ ap (λ xs. xs ++ map (λ (o : CObject). o.name) (option_to_list (object_of c.item-item.result))) c.loop-item.invariant
+    ∙ ap (λ (x : CItem). map (λ (o : CObject). o.name) (filter_map object_of (take c.loop-item.item-index c.args.items.now)) ++ map (λ (o : CObject). o.name) (option_to_list (object_of x)))
+    c.item-item.is
+    ∙ sym (mapped_more (λ (o : CObject). o.name) object_of c.args.items.now c.loop-item.item-index c.item-item.result c.loop-item-test.true)

@@ -1,0 +1,9 @@
+pub mod Last
+pub mod Places
+pub mod Values
+pub mod Actions
+pub mod Costs
+pub mod Runs
+pub mod Resolved
+pub mod Shapes
+pub mod Running

@@ -1,0 +1,137 @@
+//! Arithmetic from -2147483647 to 2147483647, which is the range of `long` in every implementation of C11 (5.2.4.2.1). A
+//! result outside has no meaning (6.5p5).
+ghost use Rattle.std.specs.Prelude.{◌≡◌, ◌+ℤ◌, ◌-ℤ◌, ◌*ℤ◌, neg_ℤ, not};
+ghost use Rattle.std.specs.Option.{option_map};
+ghost use Rattle.c_subset.specs.Meaning as spec;
+
+use scr_text::Relation;
+
+const GREATEST: i64 = 2_147_483_647;
+
+/// The number, where it is in the range.
+fn checked(number: i64) -> Option<i64>
+    ensures { result ≡ spec.checked number }
+{
+    if -GREATEST <= number && number <= GREATEST {
+        Some(number)
+    } else {
+        None
+    }
+}
+
+fn product(left: i64, right: i64) -> Option<i64>
+    ensures { result ≡ spec.checked (left *ℤ right) }
+{
+    match left.checked_mul(right) {
+        Some(number) => checked(number),
+        None => None,
+    }
+}
+
+fn sum(left: i64, right: i64) -> Option<i64>
+    ensures { result ≡ spec.checked (left +ℤ right) }
+{
+    match left.checked_add(right) {
+        Some(number) => checked(number),
+        None => None,
+    }
+}
+
+fn difference(left: i64, right: i64) -> Option<i64>
+    ensures { result ≡ spec.checked (left -ℤ right) }
+{
+    match left.checked_sub(right) {
+        Some(number) => checked(number),
+        None => None,
+    }
+}
+
+fn negation(number: i64) -> Option<i64>
+    ensures { result ≡ spec.checked (neg_ℤ number) }
+{
+    match number.checked_neg() {
+        Some(number) => checked(number),
+        None => None,
+    }
+}
+
+/// The product, where both numbers and the product are there.
+pub fn times(left: Option<i64>, right: Option<i64>) -> Option<i64>
+    ensures { result ≡ spec.times left right }
+{
+    match left {
+        Some(left) => match right {
+            Some(right) => product(left, right),
+            None => None,
+        },
+        None => None,
+    }
+}
+
+pub fn plus(left: Option<i64>, right: Option<i64>) -> Option<i64>
+    ensures { result ≡ spec.plus left right }
+{
+    match left {
+        Some(left) => match right {
+            Some(right) => sum(left, right),
+            None => None,
+        },
+        None => None,
+    }
+}
+
+pub fn minus(left: Option<i64>, right: Option<i64>) -> Option<i64>
+    ensures { result ≡ spec.minus left right }
+{
+    match left {
+        Some(left) => match right {
+            Some(right) => difference(left, right),
+            None => None,
+        },
+        None => None,
+    }
+}
+
+pub fn negative(number: Option<i64>) -> Option<i64>
+    ensures { result ≡ spec.negative number }
+{
+    match number {
+        Some(number) => negation(number),
+        None => None,
+    }
+}
+
+fn holds_between(left: i64, relation: Relation, right: i64) -> bool
+    ensures { result ≡ spec.stands_in relation left right }
+{
+    match relation {
+        Relation::Equal => left == right,
+        Relation::Differ => left != right,
+        Relation::Less => left < right,
+        Relation::AtMost => left <= right,
+        Relation::Greater => left > right,
+        Relation::AtLeast => left >= right,
+    }
+}
+
+/// Whether the numbers stand in the relation, where both are there.
+pub fn relates(relation: Relation, left: Option<i64>, right: Option<i64>) -> Option<bool>
+    ensures { result ≡ spec.relates relation left right }
+{
+    match left {
+        Some(left) => match right {
+            Some(right) => Some(holds_between(left, relation, right)),
+            None => None,
+        },
+        None => None,
+    }
+}
+
+pub fn opposite(truth: Option<bool>) -> Option<bool>
+    ensures { result ≡ option_map not truth }
+{
+    match truth {
+        Some(truth) => Some(!truth),
+        None => None,
+    }
+}

@@ -1,0 +1,9 @@
+pub mod ReadExpr
+pub mod ReadUnit
+pub mod Cuts
+pub mod Lexing
+pub mod Clean
+pub mod CleanUnit
+pub mod Writing
+pub mod Forms
+pub mod Law

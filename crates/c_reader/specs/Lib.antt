@@ -1,0 +1,12 @@
+pub mod Pieces
+pub mod Words
+pub mod Tokens
+pub mod Grammar
+pub mod Units
+pub mod Text
+pub mod Depth
+pub mod Laws
+pub mod Terms
+pub mod Kept
+pub mod Labels
+pub mod Plain

@@ -1,0 +1,15 @@
+pub mod Parts
+pub mod Names
+pub mod Kinds
+pub mod Nesting
+pub mod Scope
+pub mod Measures
+pub mod Rules
+pub mod Meaning
+pub mod Statements
+pub mod Runs
+pub mod Plain
+pub mod Earlier
+pub mod Unrolled
+pub mod Induction
+pub mod Items

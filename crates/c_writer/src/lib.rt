@@ -1,0 +1,16 @@
+//! The unit of C that runs as a specification.
+#![tactic(auto)]
+
+mod cell;
+mod condition;
+mod event;
+mod law;
+mod objects;
+mod side;
+mod table;
+mod unit;
+
+pub use law::{unit_is_right, unit_keeps_rules};
+pub use objects::Moment;
+pub use side::LinearTerm;
+pub use unit::unit_of;
