@@ -1,0 +1,5 @@
+pub mod Forms
+pub mod Narrow
+pub mod Inputs
+pub mod Reached
+pub mod Whole

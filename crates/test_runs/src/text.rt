@@ -1,0 +1,27 @@
+//! From a text to a specification that passed its checks.
+
+use scr_depend::Checked;
+use scr_reader::read;
+use scr_spec::Spec;
+use scr_types::resolve;
+use scr_verdict::{Outcome, check};
+use std::alloc::Global;
+
+fn specification(alloc: Global, text: &[u8]) -> Option<Spec> {
+    match read(alloc, text) {
+        Ok(draft) => match resolve(alloc, &draft) {
+            Ok(spec) => Some(spec),
+            Err(_) => None,
+        },
+        Err(_) => None,
+    }
+}
+
+/// The specification that the text spells. None where it does not pass its checks, or memory is out.
+pub fn checked(alloc: Global, text: &[u8]) -> Option<Checked> {
+    let spec = specification(alloc, text)?;
+    match check(alloc, spec, 40_000) {
+        Ok(Outcome::Passed(checked)) => Some(checked),
+        _ => None,
+    }
+}
