@@ -5,10 +5,11 @@ use Rattle.scr_spec.specs.Data.{Data}
 use Rattle.scr_goals.specs.declared.goal.GoalKind.{GoalKind}
 use Rattle.scr_goals.specs.declared.goal.GoalKind.TheVariants.{Disjoint, Cover, Range}
 use Rattle.scr_goals.specs.declared.goal.Goal.{Goal}
-use Rattle.scr_verdict.specs.declared.witness.Witness.{Witness}
+use Rattle.scr_decide.specs.declared.witness.Witness.{Witness}
 use Rattle.scr_verdict.specs.declared.verdict.Verdict.{Verdict}
 use Rattle.scr_verdict.specs.declared.verdict.Verdict.TheVariants.{Yes, No, Undecided}
-use Rattle.scr_report.specs.Variables.{name_of, names_text, reading_text}
+use Rattle.scr_printer.specs.Names.{variable_name}
+use Rattle.scr_report.specs.Variables.{names_text, reading_text}
 
 -- the variables in the order of evaluation
 abbrev pub order_text : Data → List ℕ → List ℕ
@@ -37,4 +38,4 @@ outcome_text spec Undecided = codes "undecided"
 
 -- the line on the table of a variable
 abbrev pub verdict_text : Data → ℕ → Verdict → List ℕ
-verdict_text spec v verdict = codes "table " ++ name_of spec v ++ codes ": " ++ outcome_text spec verdict ++ codes "\n"
+verdict_text spec v verdict = codes "table " ++ variable_name spec v ++ codes ": " ++ outcome_text spec verdict ++ codes "\n"

@@ -3,7 +3,9 @@
 
 mod faults;
 mod reports;
+mod runs;
 mod variables;
 
 pub use faults::{push_text_fault, push_type_fault};
 pub use reports::{push_cycle, push_order, push_verdict};
+pub use runs::push_state;

@@ -3,9 +3,10 @@ ghost use Rattle.std.specs.Prelude.{◌≡◌, ◌++◌, IfOk, MatchResult, OnOk
 ghost use Rattle.scr_spec.specs.Shown.{data_of};
 ghost use Rattle.scr_report.specs.Reports as text;
 
-use crate::variables::{name_of, push_names, push_reading};
+use crate::variables::{push_names, push_reading};
 use scr_depend::Order;
 use scr_goals::{Goal, GoalKind};
+use scr_printer::variable_name;
 use scr_spec::Spec;
 use scr_text::NoMemory;
 use scr_verdict::{Verdict, Witness};
@@ -93,7 +94,7 @@ pub fn push_verdict(
         (λ _. out.new.items ≡ out.old.items) }
 {
     let mut line = Vec::from_slice(*out.allocator(), b"table ")?;
-    line.extend_from_slice(name_of(spec, v))?;
+    line.extend_from_slice(variable_name(spec, v))?;
     line.extend_from_slice(b": ")?;
     push_outcome(&mut line, spec, verdict)?;
     line.push(b'\n')?;
