@@ -1,0 +1,11 @@
+pub mod Narrow
+pub mod Breaks
+pub mod Counted
+pub mod Standings
+pub mod Testing
+pub mod Progress
+pub mod OverRuns
+pub mod Sound
+pub mod SomeDerived
+pub mod Once
+pub mod DerivedOver

@@ -1,0 +1,17 @@
+//! Invariants of modes: which candidates hold in every state of every run.
+#![tactic(auto)]
+
+mod change;
+mod derived;
+mod formula;
+mod law;
+mod round;
+mod rounds;
+mod standing;
+mod trial;
+
+pub use derived::{Derived, Found};
+pub use formula::of_candidate;
+pub use law::{invariants_hold, one_derived};
+pub use rounds::derive;
+pub use trial::{is_class, monitored};
