@@ -1,6 +1,4 @@
 pub mod Numbers
-pub mod Lines
-pub mod EndsLemmas
-pub mod Existence
-pub mod Texts
+pub mod Checked
 pub mod OneAnswer
+pub mod Printed

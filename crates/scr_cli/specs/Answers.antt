@@ -1,48 +1,86 @@
 -- What the program answers for its words, and which files it reads for that.
-use Rattle.std.specs.Prelude.{◌≡◌, ⊤, ℕ, Bool, true, false, List, [], Option, None, Some, codes, slice_index_or}
+use Rattle.std.specs.Prelude.{◌≡◌, ⊤, ℕ, Bool, true, false, List, [], Option, None, Some, codes, slice_index_or, IfSome, IsSome}
 use Rattle.scr_io.specs.Outside.{Contents, Holds}
+use Rattle.scr_job.specs.declared.status.Status.{Status}
+use Rattle.scr_job.specs.declared.status.Status.TheVariants.{Usage}
+use Rattle.scr_job.specs.Ends.{Files, Answer, ByFile, IsFront}
+use Rattle.scr_checking.specs.Reports.{ChecksText}
+use Rattle.scr_simulate.specs.Simulates.{SimulateAnswers, ReachesScript}
+use Rattle.scr_derive.specs.Derives.{DerivesFile}
+use Rattle.scr_emit.specs.Emits.{Emits}
+use Rattle.scr_format.specs.Formats.{Formats}
+use Rattle.scr_runc.specs.Runs.{RunCAnswers, ReachesCalls}
 use Rattle.scr_cli.specs.declared.form.Form.{Form}
-use Rattle.scr_cli.specs.declared.form.Form.TheVariants.{Check}
-use Rattle.scr_cli.specs.declared.status.Status.{Status}
-use Rattle.scr_cli.specs.declared.status.Status.TheVariants.{Usage}
-use Rattle.scr_cli.specs.Ends.{Files, Answer, IsFront}
+use Rattle.scr_cli.specs.declared.form.Form.TheVariants.{Check, Simulate, Invariants, Emit, Format, RunC}
 use Rattle.scr_cli.specs.Form.{form_of}
-use Rattle.scr_cli.specs.Check.{CheckAnswers}
+
+-- ---- the commands
+
+abbrev pub usage_text : List ℕ
+usage_text = codes "usage: scr check|simulate|invariants|emit|format|runc|generate|large ...\n"
+
+-- of words that have no form
+abbrev pub IsUsage : List ℕ → Status → Type 0
+IsUsage bytes status = (bytes ≡ usage_text) × (status ≡ Usage)
+
+-- of `check`
+abbrev pub Checks : ℕ → Option (List ℕ) → List ℕ → Status → Type 0
+Checks limit = ByFile (ChecksText limit)
+
+-- ---- the shapes of work
+
+-- The word after the command names the first file, and the next word the second one.
+pub data Work : Type 1 where
+  -- no file is begun
+  at_once : (List ℕ → Status → Type 0) → Work
+  -- one file is read whole, and then one text is written
+  by_one : (Option (List ℕ) → List ℕ → Status → Type 0) → Work
+  -- one file is read whole, and where that reaches it, a second one is answered line by line
+  by_lines : (Option (List ℕ) → Option (List ℕ) → List ℕ → Status → Type 0) → (Option (List ℕ) → Type 0) → Work
+
+-- the work that each form asks for
+abbrev pub work_of : Option Form → Work
+work_of None = at_once IsUsage
+work_of (Some (Check limit)) = by_one (Checks limit)
+work_of (Some (Simulate limit)) = by_lines (SimulateAnswers limit) (ReachesScript limit)
+work_of (Some (Invariants limit)) = by_one (DerivesFile limit)
+work_of (Some (Emit limit)) = by_one (Emits limit)
+work_of (Some Format) = by_one Formats
+work_of (Some RunC) = by_lines RunCAnswers ReachesCalls
 
 -- the word at a place
 abbrev pub word_at : ℕ → List (List ℕ) → List ℕ
 word_at k words = slice_index_or words k []
 
-abbrev pub usage_text : List ℕ
-usage_text = codes "usage: scr check|simulate|invariants|emit|format|runc|generate|large ...\n"
+-- the answers of work
+abbrev pub WorkAnswers : Work → List (List ℕ) → Answer
+WorkAnswers (at_once answers) words files = answers
+WorkAnswers (by_one answers) words files = answers (files (word_at 1 words))
+WorkAnswers (by_lines answers reaches) words files = answers (files (word_at 1 words)) (files (word_at 2 words))
 
--- the answer to words that have no form
-abbrev pub UsageAnswers : Answer
-UsageAnswers files bytes status = (bytes ≡ usage_text) × (status ≡ Usage)
+-- the shelf holds each file that the work reaches
+abbrev pub HoldsFiles : Contents → Work → List (List ℕ) → Type 0
+HoldsFiles contents (at_once answers) words = ⊤
+HoldsFiles contents (by_one answers) words = Holds contents (word_at 1 words)
+HoldsFiles contents (by_lines answers reaches) words =
+    Holds contents (word_at 1 words) × IfSome contents (λ files. reaches (files (word_at 1 words)) → IsSome (files (word_at 2 words)))
 
--- the answers of a form
-abbrev pub FormAnswers : Option Form → List (List ℕ) → Answer
-FormAnswers None words = UsageAnswers
-FormAnswers (Some (Check limit)) words = CheckAnswers limit (word_at 1 words)
+-- the work begins no file
+abbrev pub begins_none : Work → Bool
+begins_none (at_once answers) = true
+begins_none (by_one answers) = false
+begins_none (by_lines answers reaches) = false
 
--- the answers to the words
+-- the work reads all its files before it writes
+abbrev pub reads_first : Work → Bool
+reads_first (at_once answers) = false
+reads_first (by_one answers) = true
+reads_first (by_lines answers reaches) = false
+
+-- ---- the answers to the words
+
 abbrev pub Answers : List (List ℕ) → Answer
-Answers words = FormAnswers (form_of words) words
-
--- the shelf holds each file that the words reach
-abbrev pub HoldsFiles : Contents → Option Form → List (List ℕ) → Type 0
-HoldsFiles contents None words = ⊤
-HoldsFiles contents (Some (Check limit)) words = Holds contents (word_at 1 words)
-
--- the words begin no file
-abbrev pub begins_none : Option Form → Bool
-begins_none None = true
-begins_none (Some (Check limit)) = false
-
--- the words read one file whole before they write
-abbrev pub reads_first : Option Form → Bool
-reads_first None = false
-reads_first (Some (Check limit)) = true
+Answers words = WorkAnswers (work_of (form_of words)) words
 
 -- words and files have one answer, and never none
 pub record OneAnswer : Type 0 where

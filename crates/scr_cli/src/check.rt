@@ -1,11 +1,9 @@
 //! The command `check`: the order and the verdict on each table of a specification, or its cycle.
 ghost use Rattle.std.specs.Prelude.{◌≤◌};
 
-use crate::answer::{answer, refused};
-use crate::job::Job;
-use crate::load::Loaded;
-use crate::status::Status;
-use scr_reader::{TEXT_LIMIT, TextKind};
+use scr_checking::{Checking, check_file, passed_report};
+use scr_job::{Job, Loaded, Status};
+use scr_reader::TEXT_LIMIT;
 use scr_text::NoMemory;
 use std::alloc::Global;
 
@@ -17,7 +15,7 @@ pub(crate) struct Check {
 }
 
 impl Job for Check {
-    ghost use Rattle.scr_cli.specs.Check.{Checks};
+    ghost use Rattle.scr_cli.specs.Answers.{Checks};
     ghost use Rattle.scr_reader.specs.declared.text.TheConstants.{TEXT_LIMIT};
 
     ghost answers = { λ job. Checks job.nodes };
@@ -29,9 +27,9 @@ impl Job for Check {
     }
 
     fn answer(&self, alloc: Global, file: Loaded) -> Result<(Vec<u8>, Status), NoMemory> {
-        match file {
-            Loaded::Whole(text) => answer(alloc, text.as_slice(), self.nodes),
-            Loaded::TooLong => refused(alloc, 0, TextKind::Limit),
+        match check_file(alloc, &file, self.nodes)? {
+            Checking::Passed(checked) => Ok((passed_report(alloc, &checked)?, Status::Done)),
+            Checking::Finished(report, status) => Ok((report, status)),
         }
     }
 }

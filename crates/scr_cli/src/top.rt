@@ -1,24 +1,28 @@
 //! The top call: what the words ask for, and how it ended.
 ghost use Rattle.std.specs.Prelude.{◌≡◌, ◌≢◌, ◌⊎◌, None, IfOk, IfErr, IsErrOf, IsTrue, map, string_bytes};
 ghost use Rattle.scr_io.specs.Outside.{HasRisen};
-ghost use Rattle.scr_cli.specs.Ends.{Answered, Stopped, Ended, is_own};
+ghost use Rattle.scr_job.specs.Ends.{Answered, Stopped, Ended, is_own};
 ghost use Rattle.scr_cli.specs.Form.{form_of};
-ghost use Rattle.scr_cli.specs.Answers.{Answers, OneAnswer, UsageAnswers, HoldsFiles, begins_none, reads_first};
+ghost use Rattle.scr_cli.specs.Holds.{PrintedHold};
+ghost use Rattle.scr_cli.specs.Answers.{Answers, OneAnswer, IsUsage, HoldsFiles, begins_none, reads_first, work_of};
 
 use crate::check::Check;
 use crate::form::{Form, parse};
-use crate::job::respond;
-use crate::load::put;
-use crate::status::{Status, Stop};
+use scr_derive::Invariants;
+use scr_emit::Emit;
+use scr_format::Format;
 use scr_io::{Shelf, Sink};
+use scr_job::{Status, Stop, put, respond, respond_by_lines};
+use scr_runc::RunC;
+use scr_simulate::Simulate;
 use std::alloc::Global;
 
 /// Writes the usage line, for words that have no form. No file is begun.
 fn usage<S: Shelf, K: Sink>(shelf: &S, out: &mut K) -> Result<Status, Stop>
     ensures answered { IfOk result (Answered (S.contents shelf.now) (K.written out.old) (K.written out.new)
-        UsageAnswers) }
+        (λ _. IsUsage)) }
     ensures stopped { IfErr result (Stopped (S.contents shelf.now) (K.written out.old) (K.written out.new)
-        UsageAnswers) }
+        (λ _. IsUsage)) }
     ensures status { IfOk result (λ status. status ≡ Status.Usage) }
     ensures only { IfErr result (λ stop. stop ≡ Stop.Write) }
     ensures write_cause { IsErrOf result Stop.Write → HasRisen (K.faults out.old) (K.faults out.new) }
@@ -43,16 +47,16 @@ fn dispatch<S: Shelf, K: Sink>(
         (Answers (map string_bytes words.now))) }
     ensures status { IfOk result (λ status. IsTrue (is_own status)
         ⊎ ((status ≡ Status.Usage) × (form_of (map string_bytes words.now) ≡ None))) }
-    ensures nothing { IsTrue (reads_first (form_of (map string_bytes words.now)))
+    ensures nothing { IsTrue (reads_first (work_of (form_of (map string_bytes words.now))))
         → IsErrOf result Stop.Read → K.written out.new ≡ K.written out.old }
     ensures read_cause { IsErrOf result Stop.Read → HasRisen (S.faults shelf.old) (S.faults shelf.new) }
     ensures write_cause { IsErrOf result Stop.Write → HasRisen (K.faults out.old) (K.faults out.new) }
-    ensures no_file { IsTrue (begins_none (form_of (map string_bytes words.now)))
+    ensures no_file { IsTrue (begins_none (work_of (form_of (map string_bytes words.now))))
         → S.faults shelf.new ≡ S.faults shelf.old }
-    ensures no_read { IsTrue (begins_none (form_of (map string_bytes words.now)))
+    ensures no_read { IsTrue (begins_none (work_of (form_of (map string_bytes words.now))))
         → ¬ IsErrOf result Stop.Read }
     ensures succeeds { S.steady shelf.old
-        → HoldsFiles (S.contents shelf.old) (form_of (map string_bytes words.now)) (map string_bytes words.now)
+        → HoldsFiles (S.contents shelf.old) (work_of (form_of (map string_bytes words.now))) (map string_bytes words.now)
         → ¬ IsErrOf result Stop.Read }
 {
     match parse(words) {
@@ -61,6 +65,34 @@ fn dispatch<S: Shelf, K: Sink>(
             let job = Check { nodes: limit };
             respond(&job, alloc, words[1].as_str(), shelf, out)
         }
+        Some(Form::Simulate { limit }) => {
+            let command = Simulate { nodes: limit };
+            respond_by_lines(
+                &command,
+                alloc,
+                words[1].as_str(),
+                words[2].as_str(),
+                shelf,
+                out,
+            )
+        }
+        Some(Form::Invariants { limit }) => {
+            let job = Invariants { nodes: limit };
+            respond(&job, alloc, words[1].as_str(), shelf, out)
+        }
+        Some(Form::Emit { limit }) => {
+            let job = Emit { nodes: limit };
+            respond(&job, alloc, words[1].as_str(), shelf, out)
+        }
+        Some(Form::Format) => respond(&Format, alloc, words[1].as_str(), shelf, out),
+        Some(Form::RunC) => respond_by_lines(
+            &RunC,
+            alloc,
+            words[1].as_str(),
+            words[2].as_str(),
+            shelf,
+            out,
+        ),
     }
 }
 
@@ -76,24 +108,24 @@ fn dispatch<S: Shelf, K: Sink>(
 /// - `usage`: `Usage` comes only from words that have no form.
 /// - `no_file`, `no_read`: for words that name no file the shelf's count of failures is as before,
 ///   and `ReadFault` never comes.
-/// - `succeeds`: on a steady shelf that holds each file of the words, `ReadFault` never comes. So a
-///   failure at any other file cannot be its cause.
+/// - `succeeds`: on a steady shelf that holds each file that the work reaches, `ReadFault` never
+///   comes. So a failure at any other file cannot be its cause.
 ///
 /// `NoMemory` may come at any growth of memory.
 pub fn run<S: Shelf, K: Sink>(alloc: Global, words: &[String], shelf: &mut S, out: &mut K) -> Status
     ensures ended { Ended (S.contents shelf.old) (K.written out.old) (K.written out.new)
         (Answers (map string_bytes words.now)) result }
-    ensures nothing { IsTrue (reads_first (form_of (map string_bytes words.now)))
+    ensures nothing { IsTrue (reads_first (work_of (form_of (map string_bytes words.now))))
         → result ≡ Status.ReadFault → K.written out.new ≡ K.written out.old }
     ensures read_cause { result ≡ Status.ReadFault → HasRisen (S.faults shelf.old) (S.faults shelf.new) }
     ensures write_cause { result ≡ Status.WriteFault → HasRisen (K.faults out.old) (K.faults out.new) }
     ensures usage { result ≡ Status.Usage → form_of (map string_bytes words.now) ≡ None }
-    ensures no_file { IsTrue (begins_none (form_of (map string_bytes words.now)))
+    ensures no_file { IsTrue (begins_none (work_of (form_of (map string_bytes words.now))))
         → S.faults shelf.new ≡ S.faults shelf.old }
-    ensures no_read { IsTrue (begins_none (form_of (map string_bytes words.now)))
+    ensures no_read { IsTrue (begins_none (work_of (form_of (map string_bytes words.now))))
         → result ≢ Status.ReadFault }
     ensures succeeds { S.steady shelf.old
-        → HoldsFiles (S.contents shelf.old) (form_of (map string_bytes words.now)) (map string_bytes words.now)
+        → HoldsFiles (S.contents shelf.old) (work_of (form_of (map string_bytes words.now))) (map string_bytes words.now)
         → result ≢ Status.ReadFault }
 {
     match dispatch(alloc, words, shelf, out) {
@@ -107,4 +139,10 @@ pub fn run<S: Shelf, K: Sink>(alloc: Global, words: &[String], shelf: &mut S, ou
 /// Words and files have one answer, and never none.
 pub fn one_answer()
     ensures { OneAnswer }
+{}
+
+/// What `invariants` prints as found holds in every state of every run of the specification that its
+/// file spells, whether it ends with `Done`, or with `Undecided` since a class is undecided.
+pub fn printed_hold()
+    ensures { PrintedHold }
 {}

@@ -1,5 +1,0 @@
-//! The worked examples, as tests of the top call over a shelf and a sink in memory.
-#![tactic(auto)]
-
-#[cfg(test)]
-mod tests;

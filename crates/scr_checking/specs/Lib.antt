@@ -1,0 +1,4 @@
+pub mod Spelling
+pub mod Reports
+pub mod Checking
+pub mod Laws

@@ -1,0 +1,12 @@
+//! Checking first: from the bytes of a text to a specification that passed its checks, or to the report that ends the
+//! command.
+#![tactic(auto)]
+
+mod checking;
+mod law;
+mod spelling;
+mod verdicts;
+
+pub use checking::{Checking, check_file, check_text, passed_report};
+pub use law::one_checking;
+pub use spelling::{Spelling, spell_file, spell_text};

@@ -1,0 +1,21 @@
+-- What `invariants` prints holds.
+use Rattle.std.specs.Prelude.{◌≡◌, ℕ, List, Some}
+use Rattle.scr_spec.specs.Data.{Data}
+use Rattle.scr_types.specs.Texts.{Spells}
+use Rattle.scr_depend.specs.declared.order.Order.{Order}
+use Rattle.scr_job.specs.declared.status.Status.{Status}
+use Rattle.scr_job.specs.declared.status.Status.TheVariants.{Done}
+use Rattle.scr_job.specs.Ends.{Files}
+use Rattle.scr_checking.specs.Checking.{Passes}
+use Rattle.scr_derive.specs.Laws.{PrintsWhatHolds}
+use Rattle.scr_cli.specs.declared.form.Form.TheVariants.{Invariants}
+use Rattle.scr_cli.specs.Form.{form_of}
+use Rattle.scr_cli.specs.Answers.{word_at, Answers}
+
+-- an answer to the words of `invariants` on a text that passes its checks, whether or not a class is undecided: each
+-- candidate that it tells as found holds in every state of every run; so it is of each answer with `Done`
+pub record PrintedHold : Type 0 where
+  pub hold : (words : List (List ℕ)) (files : Files) (limit : ℕ) (text bytes : List ℕ) (status : Status) (spec : Data) (order : Order) → form_of words ≡ Some (Invariants limit)
+      → files (word_at 1 words) ≡ Some text → Passes limit text spec order → Answers words files bytes status → PrintsWhatHolds spec bytes
+  pub done : (words : List (List ℕ)) (files : Files) (limit : ℕ) (text bytes : List ℕ) (spec : Data) → form_of words ≡ Some (Invariants limit)
+      → files (word_at 1 words) ≡ Some text → Spells text spec → Answers words files bytes Done → PrintsWhatHolds spec bytes

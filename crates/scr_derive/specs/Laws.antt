@@ -1,0 +1,40 @@
+-- The law of what is derived.
+use Rattle.std.specs.Prelude.{◌≡◌, ℕ, List, [], map, Option, IsTrue}
+use Rattle.std.specs.List.{AllByRecursion}
+use Rattle.scr_spec.specs.Data.{Data}
+use Rattle.scr_spec.specs.Meaning.{Codes}
+use Rattle.scr_spec.specs.declared.state.Input.{Input}
+use Rattle.scr_types.specs.Texts.{Spells}
+use Rattle.scr_depend.specs.declared.order.Order.{Order}
+use Rattle.scr_next.specs.Runs.{IsRun}
+use Rattle.scr_invariants.specs.declared.derived.Derived.{Derived}
+use Rattle.scr_invariants.specs.declared.derived.Derived.TheVariants as derived
+use Rattle.scr_invariants.specs.Holds.{holds_in}
+use Rattle.scr_job.specs.declared.status.Status.{Status}
+use Rattle.scr_job.specs.declared.status.Status.TheVariants.{Done}
+use Rattle.scr_job.specs.Ends.{IsFront}
+use Rattle.scr_checking.specs.Checking.{Passes}
+use Rattle.scr_derive.specs.declared.derivation.Derivation.{Derivation}
+use Rattle.scr_derive.specs.Texts.{classes_text}
+use Rattle.scr_derive.specs.Derives.{classes_of, DerivesText, DerivesFile}
+
+-- each candidate that is found for the class holds in each of the states
+abbrev pub HoldThroughout : Data → List Codes → ℕ → Derived → Type 0
+HoldThroughout spec states class (derived.All list) = AllByRecursion (λ f. AllByRecursion (λ at. IsTrue (holds_in spec class at f.candidate)) states) list
+HoldThroughout spec states class (derived.Undecided round c) = Unit {0}
+
+-- the bytes are the lines on these, one for each class; all that is found holds in every state of every run
+pub record PrintsWhatHolds (spec : Data) (bytes : List ℕ) : Type 0 where
+  pub list : List Derivation
+  pub classes : map (λ d. d.class) list ≡ classes_of spec
+  pub printed : bytes ≡ classes_text spec list
+  pub hold : (inputs : List Input) (states : List Codes) → IsRun spec inputs states → AllByRecursion (λ d. HoldThroughout spec states d.class d.derived) list
+
+pub record OneDerivation : Type 0 where
+  -- a file has one answer, and never none
+  pub once : (limit : ℕ) (held : Option (List ℕ)) (x y : List ℕ) (i j : Status) → DerivesFile limit held x i → DerivesFile limit held y j → (x ≡ y) × (i ≡ j)
+  pub some : (limit : ℕ) (held : Option (List ℕ)) → IsFront (DerivesFile limit held) []
+  -- for a text that passes, whether or not a class is undecided, what is printed as found holds
+  pub hold : (limit : ℕ) (text bytes : List ℕ) (status : Status) (spec : Data) (order : Order) → Passes limit text spec order → DerivesText limit text bytes status → PrintsWhatHolds spec bytes
+  -- and each text that is answered with `Done` passes
+  pub done : (limit : ℕ) (text bytes : List ℕ) → DerivesText limit text bytes Done → (spec : Data) → Spells text spec → PrintsWhatHolds spec bytes

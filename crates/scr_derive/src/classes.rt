@@ -1,0 +1,96 @@
+//! What is derived for each class of a specification that passed its checks.
+ghost use Rattle.std.specs.Prelude.{◌≡◌, ◌≤◌, IsTrue, IfOk};
+ghost use Rattle.std.specs.List.{list_all, list_any};
+ghost use Rattle.scr_spec.specs.Shown.{data_of};
+ghost use Rattle.scr_spec.specs.Tables.{is_class_at};
+ghost use Rattle.scr_job.specs.Ends.{is_own};
+ghost use Rattle.scr_derive.specs.Derives.{classes_of, HaveDerived, is_undecided, status_of, Derives};
+
+use crate::derivation::Derivation;
+use crate::text::push_classes;
+use scr_depend::Checked;
+use scr_invariants::{Derived, derive, is_class};
+use scr_job::Status;
+use scr_spec::Spec;
+use scr_text::NoMemory;
+use sqlite_items::Items;
+use std::alloc::Global;
+
+/// The mode classes, in order of declaration.
+#[tactic(auto, using(scr_invariants::proofs::Testing::monitored_laws))]
+fn classes(alloc: Global, spec: &Spec) -> Result<Items<usize>, NoMemory>
+    ensures { IfOk result (λ list. list ≡ classes_of (data_of spec.now)) }
+{
+    let mut out = Items::new(alloc);
+    for v in 0..spec.variables.len() {
+        if is_class(spec, v) {
+            out.push(v)?;
+        }
+    }
+    Ok(out)
+}
+
+/// Derives invariants for each of the classes.
+#[tactic(auto, using(crate::proofs::Lists::list_laws))]
+fn derive_each(
+    alloc: Global,
+    checked: &Checked,
+    limit: u32,
+    classes: &[usize],
+) -> Result<Items<Derivation>, NoMemory>
+    requires limit { limit ≤ 40000 }
+    requires classes { IsTrue (list_all (is_class_at (data_of checked.now.spec)) classes.now) }
+    ensures { IfOk result (HaveDerived (data_of checked.now.spec) checked.now.order.list limit classes.now) }
+{
+    let mut out = Items::new(alloc);
+    for class in classes {
+        let class = *class;
+        let derived = derive(alloc, checked, class, limit)?;
+        out.push(Derivation { class, derived })?;
+    }
+    Ok(out)
+}
+
+fn is_undecided(derivation: &Derivation) -> bool
+    ensures { result ≡ is_undecided derivation.now.derived }
+{
+    match &derivation.derived {
+        Derived::All(_) => false,
+        Derived::Undecided(_, _) => true,
+    }
+}
+
+fn has_undecided(list: &[Derivation]) -> bool
+    ensures { result ≡ list_any (λ d. is_undecided d.derived) list.now }
+{
+    list.iter().any(|derivation| is_undecided(derivation))
+}
+
+fn status_of(list: &[Derivation]) -> Status
+    ensures exact { result ≡ status_of list.now }
+    ensures own { IsTrue (is_own result) }
+{
+    if has_undecided(list) {
+        Status::Undecided
+    } else {
+        Status::Done
+    }
+}
+
+/// The lines on each class, in order of declaration, and how the command ends with them.
+pub(crate) fn derive_all(
+    alloc: Global,
+    checked: &Checked,
+    limit: u32,
+) -> Result<(Vec<u8>, Status), NoMemory>
+    requires { limit ≤ 40000 }
+    ensures exact { IfOk result (λ r. Derives limit (data_of checked.now.spec) r.0.items r.1) }
+    ensures status { IfOk result (λ r. IsTrue (is_own r.1)) }
+{
+    let spec = checked.spec();
+    let classes = classes(alloc, spec)?;
+    let derivations = derive_each(alloc, checked, limit, classes.as_slice())?;
+    let mut out = Vec::new(alloc);
+    push_classes(&mut out, spec, derivations.as_slice())?;
+    Ok((out, status_of(derivations.as_slice())))
+}

@@ -1,0 +1,10 @@
+//! What is derived for classes.
+
+use scr_invariants::Derived;
+
+/// What was derived for the class with this number.
+#[derive(Debug, Drop)]
+pub struct Derivation {
+    pub class: usize,
+    pub derived: Derived,
+}

@@ -1,0 +1,41 @@
+-- The end of a script, and how long its lines are.
+use Rattle.std.proofs.Common.{◌≡◌, ℕ, ◌<◌, true, false, List, [], ◌∷◌, ◌++◌, length, Result, Ok, Err, refl, ap, arith, ◌∙◌}
+use Rattle.std.specs.Prelude.{OnOk, IfOk, ◌==◌, if◌then◌else◌}
+use Rattle.std.specs.Io.BufRead.{take_through}
+use Rattle.scr_io.specs.declared.lines.Piece.{Piece}
+use Rattle.scr_io.specs.declared.lines.Piece.TheVariants.{Line, Long, Past, End}
+use Rattle.scr_io.specs.Line.{next_piece}
+use Rattle.scr_text.specs.declared.memory.NoMemory.{NoMemory}
+use Rattle.scr_text.specs.Ends.{line_with_end}
+use Rattle.scr_job.specs.declared.status.Status.{Status}
+use Rattle.scr_job.specs.Ends.{is_own}
+use Rattle.scr_job.specs.Session.{Answering, IsClosed}
+use Rattle.scr_job.specs.Closing.{closing_text, closing_status}
+
+own_closing : (p : Piece) → is_own (closing_status p) ≡ true
+own_closing End = refl
+own_closing Past = refl
+own_closing Long = refl
+own_closing Line = refl
+
+-- what was appended at the end of a script answers what is left
+pub closing : (r : Result Status NoMemory) (answers : Answering) (number : ℕ) (piece : Piece) (before after : List ℕ)
+    → ((room : ℕ) (rest : List ℕ) (status : Status) → next_piece room rest ≡ piece → status ≡ closing_status piece → answers number room rest (closing_text number piece) status)
+    → OnOk r (after ≡ before ++ closing_text number piece) → IfOk r (λ status. status ≡ closing_status piece) → IfOk r (IsClosed answers number piece before after)
+closing (Err e) answers number piece before after is said ends = tt
+closing (Ok status) answers number piece before after is said ends = record {
+  text = closing_text number piece;
+  appended = said;
+  answers = λ room rest next. is room rest status next ends;
+  own = ap is_own ends ∙ own_closing piece;
+}
+
+-- a line takes at least one byte
+pub line_some : (rest : List ℕ) → 0 < length rest → 0 < length (line_with_end rest)
+line_some [] h = absurd (omega arith)
+line_some (b ∷ bytes) h =
+    elim (b == 10) as (λ t. 0 < length (if t then b ∷ [] else b ∷ take_through 10 bytes)) [ true ↦ omega arith | false ↦ omega arith ]
+
+pub line_there : (room : ℕ) (rest : List ℕ) → next_piece room rest ≡ Line → 0 < length rest
+line_there room [] h = cc
+line_there room (b ∷ bytes) h = omega arith

@@ -1,0 +1,5 @@
+pub mod EndsLemmas
+pub mod WalkLemmas
+pub mod FileLemmas
+pub mod CommandLemmas
+pub mod ClosingLemmas

@@ -1,0 +1,19 @@
+//! The two orders of work of a command: a file that is read whole and answered by one text, and a file that is answered
+//! line by line.
+#![tactic(auto)]
+
+mod closing;
+mod command;
+mod job;
+mod session;
+mod status;
+mod walk;
+mod whole;
+
+pub use closing::push_closing;
+pub use command::{Command, First, respond_by_lines};
+pub use job::{Job, respond};
+pub use session::Session;
+pub use status::{Status, Stop};
+pub use walk::{SCRIPT_LIMIT, answer_lines};
+pub use whole::{Loaded, load, put};

@@ -1,0 +1,6 @@
+pub mod CallForms
+pub mod TextLaws
+pub mod Once
+pub mod Existence
+pub mod Steps
+pub mod Files

@@ -1,0 +1,20 @@
+-- The law of `runc`.
+use Rattle.std.specs.Prelude.{◌≡◌, ℕ, List, [], Option}
+use Rattle.c_subset.specs.declared.unit.CUnit.{CUnit}
+use Rattle.c_subset.specs.Meaning.{Objects}
+use Rattle.scr_job.specs.declared.status.Status.{Status}
+use Rattle.scr_job.specs.Ends.{IsFront, HasFront}
+use Rattle.scr_job.specs.Session.{IsAnswered}
+use Rattle.scr_runc.specs.Runs.{RunsCalls, RunsFile, RunCAnswers}
+
+pub record OneAnswerOfCalls : Type 0 where
+  -- from each row of objects on, a rest of a file of calls has one answer
+  pub once : (unit : CUnit) (row : Objects) (count number room : ℕ) (rest x y : List ℕ) (i j : Status)
+      → RunsCalls unit row count number room rest x i → RunsCalls unit row count number room rest y j → (x ≡ y) × (i ≡ j)
+  pub some : (unit : CUnit) (row : Objects) (count : ℕ) → IsAnswered (RunsCalls unit row count)
+  -- a unit has one answer to a file of calls
+  pub file_once : (unit : CUnit) (calls : Option (List ℕ)) (x y : List ℕ) (i j : Status) → RunsFile unit calls x i → RunsFile unit calls y j → (x ≡ y) × (i ≡ j)
+  pub file_some : (unit : CUnit) (calls : Option (List ℕ)) → HasFront (RunsFile unit calls) []
+  -- files have one answer of `runc`, and never none
+  pub one : (held calls : Option (List ℕ)) (x y : List ℕ) (i j : Status) → RunCAnswers held calls x i → RunCAnswers held calls y j → (x ≡ y) × (i ≡ j)
+  pub never_none : (held calls : Option (List ℕ)) → IsFront (RunCAnswers held calls) []

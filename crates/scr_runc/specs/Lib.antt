@@ -1,0 +1,5 @@
+pub mod Lines
+pub mod Texts
+pub mod Runs
+pub mod Firsts
+pub mod Laws

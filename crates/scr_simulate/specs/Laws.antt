@@ -1,0 +1,24 @@
+-- The law of simulations.
+use Rattle.std.specs.Prelude.{◌≡◌, ℕ, List, [], Option}
+use Rattle.scr_spec.specs.Data.{Data}
+use Rattle.scr_spec.specs.Meaning.{Codes}
+use Rattle.scr_depend.specs.declared.order.Order.{Order}
+use Rattle.scr_next.specs.Runs.{IsConsistent}
+use Rattle.scr_next.specs.Laws.{PassesChecks}
+use Rattle.scr_job.specs.declared.status.Status.{Status}
+use Rattle.scr_job.specs.Ends.{IsFront, HasFront}
+use Rattle.scr_job.specs.Session.{IsAnswered}
+use Rattle.scr_simulate.specs.Simulates.{Simulates, SimulatesFile, SimulateAnswers}
+
+pub record OneSimulation : Type 0 where
+  -- from a consistent state on, a rest of a script has one answer
+  pub once : (spec : Data) (order : Order) (at : Codes) (count number room : ℕ) (rest x y : List ℕ) (i j : Status) → PassesChecks spec order → IsConsistent spec at
+      → Simulates spec at count number room rest x i → Simulates spec at count number room rest y j → (x ≡ y) × (i ≡ j)
+  pub some : (spec : Data) (order : Order) (at : Codes) (count : ℕ) → PassesChecks spec order → IsConsistent spec at → IsAnswered (Simulates spec at count)
+  -- a specification that passes has one answer to a script
+  pub file_once : (spec : Data) (order : Order) (script : Option (List ℕ)) (x y : List ℕ) (i j : Status) → PassesChecks spec order → SimulatesFile spec script x i → SimulatesFile spec script y j
+      → (x ≡ y) × (i ≡ j)
+  pub file_some : (spec : Data) (order : Order) (script : Option (List ℕ)) → PassesChecks spec order → HasFront (SimulatesFile spec script) []
+  -- files have one answer of `simulate`, and never none
+  pub one : (limit : ℕ) (held script : Option (List ℕ)) (x y : List ℕ) (i j : Status) → SimulateAnswers limit held script x i → SimulateAnswers limit held script y j → (x ≡ y) × (i ≡ j)
+  pub never_none : (limit : ℕ) (held script : Option (List ℕ)) → IsFront (SimulateAnswers limit held script) []

@@ -1,0 +1,61 @@
+-- What `simulate` answers to a script: the states of the run of its inputs, each with its number.
+use Rattle.std.specs.Prelude.{◌≡◌, ℕ, ◌+◌, ◌-◌, List, ◌++◌, length, Option, Some, None, Ok, Err}
+use Rattle.scr_io.specs.declared.lines.Piece.{Piece}
+use Rattle.scr_io.specs.declared.lines.Piece.TheVariants.{Line}
+use Rattle.scr_io.specs.Line.{next_piece}
+use Rattle.scr_text.specs.Ends.{line_with_end}
+use Rattle.scr_spec.specs.Data.{Data}
+use Rattle.scr_spec.specs.declared.state.Input.{Input}
+use Rattle.scr_spec.specs.Meaning.{Codes}
+use Rattle.scr_depend.specs.declared.order.Order.{Order}
+use Rattle.scr_next.specs.Runs.{IsInitial, IsStep}
+use Rattle.scr_simulator.specs.declared.fault.ScriptFault.{ScriptFault}
+use Rattle.scr_simulator.specs.declared.fault.ScriptFault.TheVariants as fault
+use Rattle.scr_simulator.specs.Script.{read_line}
+use Rattle.scr_job.specs.declared.status.Status.{Status}
+use Rattle.scr_job.specs.declared.status.Status.TheVariants.{ScriptRefused}
+use Rattle.scr_job.specs.Ends.{ByFile}
+use Rattle.scr_job.specs.Session.{FileAnswers, first_line, behind}
+use Rattle.scr_script.specs.declared.fault.ScriptKind.{ScriptKind}
+use Rattle.scr_script.specs.declared.fault.ScriptKind.TheVariants as kind
+use Rattle.scr_script.specs.Faults.{script_fault}
+use Rattle.scr_job.specs.Closing.{closing_text, closing_status}
+use Rattle.scr_report.specs.Runs.{state_text}
+use Rattle.scr_checking.specs.Checking.{Passes, ChecksFirst}
+
+abbrev pub kind_of : ScriptFault → ScriptKind
+kind_of fault.Syntax = kind.Syntax
+kind_of fault.Unknown = kind.Unknown
+kind_of fault.Value = kind.Value
+kind_of fault.NoChange = kind.NoChange
+kind_of fault.Nat = kind.Nat
+
+-- the answer from this state on, which has this number among the states
+pub data Simulates (spec : Data) : Codes → ℕ → ℕ → ℕ → List ℕ → List ℕ → Status → Type 0 where
+  closed : {at : Codes} {count number room : ℕ} {rest bytes : List ℕ} {status : Status} (piece : Piece) → next_piece room rest ≡ piece → (piece ≡ Line → ⊥)
+      → bytes ≡ closing_text number piece → status ≡ closing_status piece → Simulates spec at count number room rest bytes status
+  faulty : {at : Codes} {count number room : ℕ} {rest bytes : List ℕ} {status : Status} (fault : ScriptFault) → next_piece room rest ≡ Line → read_line spec at (first_line rest) ≡ Err fault
+      → bytes ≡ script_fault number (kind_of fault) → status ≡ ScriptRefused → Simulates spec at count number room rest bytes status
+  passed : {at : Codes} {count number room : ℕ} {rest bytes : List ℕ} {status : Status} → next_piece room rest ≡ Line → read_line spec at (first_line rest) ≡ Ok None
+      → Simulates spec at count (number + 1) (room - length (line_with_end rest)) (behind rest) bytes status → Simulates spec at count number room rest bytes status
+  taken : {at : Codes} {count number room : ℕ} {rest bytes : List ℕ} {status : Status} (input : Input) (new : Codes) (more : List ℕ) → next_piece room rest ≡ Line
+      → read_line spec at (first_line rest) ≡ Ok (Some input) → IsStep spec at input new
+      → Simulates spec new (count + 1) (number + 1) (room - length (line_with_end rest)) (behind rest) more status → bytes ≡ state_text spec (count + 1) new ++ more
+      → Simulates spec at count number room rest bytes status
+
+-- ---- files
+
+-- for a specification that passes, by its script, if it is there: the initial state, and then what answers the lines
+pub record SimulatesFile (spec : Data) (script : Option (List ℕ)) (bytes : List ℕ) (status : Status) : Type 0 where
+  pub first : Codes
+  pub initial : IsInitial spec first
+  pub answers : FileAnswers (state_text spec 0 first) (Simulates spec first 0) script bytes status
+
+-- by the text of a specification and the script
+abbrev pub SimulateAnswers : ℕ → Option (List ℕ) → Option (List ℕ) → List ℕ → Status → Type 0
+SimulateAnswers limit held script = ByFile (ChecksFirst (λ spec. SimulatesFile spec script) limit) held
+
+-- the script is reached where the text passes
+abbrev pub ReachesScript : ℕ → Option (List ℕ) → Type 0
+ReachesScript limit None = ⊥
+ReachesScript limit (Some text) = (spec : Data) × (order : Order) × Passes limit text spec order

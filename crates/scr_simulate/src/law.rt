@@ -1,0 +1,8 @@
+//! The law of simulations.
+ghost use Rattle.scr_simulate.specs.Laws.{OneSimulation};
+
+/// A specification that passed its checks has one answer to a script, and files have one answer of
+/// `simulate`, and never none.
+pub fn one_simulation()
+    ensures { OneSimulation }
+{}
