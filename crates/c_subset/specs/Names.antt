@@ -1,9 +1,8 @@
 -- Which words are names of a C unit.
-use Rattle.std.specs.Prelude.{ℕ, Bool, false, not, ◌&&◌, nat_le, List, [], ◌∷◌, length, codes}
-use Rattle.std.specs.List.{list_all, list_any}
-use Rattle.std.specs.Char.{is_ascii_alphabetic}
+pub use Rattle.scr_text.specs.Piece.{is_spelt as is_word}
+use Rattle.std.specs.Prelude.{ℕ, Bool, not, ◌&&◌, nat_le, List, [], ◌∷◌, length, codes}
+use Rattle.std.specs.List.{list_any}
 use Rattle.std.specs.Str.{bytes_eq}
-use Rattle.scr_text.specs.Piece.{is_word_byte}
 
 -- the keywords of C11 (6.4.1), but for those that begin with `_`, as no name here does
 unfoldable pub keywords : List (List ℕ)
@@ -13,11 +12,6 @@ keywords =
     codes "inline" ∷ codes "int" ∷ codes "long" ∷ codes "register" ∷ codes "restrict" ∷ codes "return" ∷ codes "short" ∷
     codes "signed" ∷ codes "sizeof" ∷ codes "static" ∷ codes "struct" ∷ codes "switch" ∷ codes "typedef" ∷ codes "union" ∷
     codes "unsigned" ∷ codes "void" ∷ codes "volatile" ∷ codes "while" ∷ []
-
--- a letter, then letters, digits and `_`
-abbrev pub is_word : List ℕ → Bool
-is_word [] = false
-is_word (b ∷ bytes) = is_ascii_alphabetic b && list_all is_word_byte bytes
 
 -- the name is one of the list
 abbrev pub is_among : List (List ℕ) → List ℕ → Bool

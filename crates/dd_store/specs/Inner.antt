@@ -2,6 +2,7 @@
 use Rattle.std.specs.Prelude.{◌≡◌}
 use Rattle.std.specs.List.{AllByRecursion}
 use Rattle.dd_store.specs.declared.store.Store.TheInside.{Inside}
+use Rattle.dd_store.specs.declared.store.TheConstants.{MEMO_ENTRIES}
 use Rattle.dd_store.specs.Held.{Held}
 use Rattle.dd_store.specs.Kept.{IsHeld}
 use Rattle.dd_store.specs.Keys.{nodes_of, IsJoinedKey}
@@ -14,4 +15,4 @@ held_by s = record { domains = s.domains.items; limit = s.limit; nodes = nodes_o
 pub record IsInside (s : Inside) : Type 0 where
   pub held : IsHeld (held_by s)
   pub joined : AllByRecursion IsJoinedKey s.nodes.keys
-  pub cap : s.memo.cap ≡ 16384
+  pub cap : s.memo.cap ≡ MEMO_ENTRIES

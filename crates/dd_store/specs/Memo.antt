@@ -7,6 +7,7 @@ use Rattle.dd_store.specs.contracts.memo.MemoKeyPartialEq.TheImpl.{eq-value}
 use Rattle.dd_store.specs.declared.memo.Join.{Join}
 use Rattle.dd_store.specs.declared.memo.Join.TheVariants.{And, Or, Not}
 use Rattle.dd_store.specs.declared.memo.MemoKey.{MemoKey}
+use Rattle.dd_store.specs.declared.store.TheConstants.{MEMO_ENTRIES}
 use Rattle.dd_store.specs.Held.{Held, sizes, trees, at, IsKnown, Has}
 
 -- what an operation answers for the truths of two sides; Not reads the left one
@@ -34,6 +35,6 @@ key_eq = eq-value.it
 abbrev pub key_of : Join → ℕ → ℕ → MemoKey
 key_of join f g = record { join = join; left = f; right = g }
 
--- the entries with one more in front, in place of an earlier one for its key, and without the last where there would be more than 16,384
+-- the entries with one more in front, in place of an earlier one for its key, and without the last where there would be more than the memo keeps
 abbrev pub noted : List (MemoKey × ℕ) → MemoKey → ℕ → List (MemoKey × ℕ)
-noted es key id = put_entries key_eq (lru_cache es 16384) key id
+noted es key id = put_entries key_eq (lru_cache es MEMO_ENTRIES) key id

@@ -14,7 +14,7 @@ mod store;
 pub use id::Id;
 pub use memo::{Join, MemoKey};
 pub use node::{Stretch, View};
-pub use store::{Store, StoreFault};
+pub use store::{NODE_LIMIT, Store, StoreFault};
 
 /// In every store distinct Ids have distinct trees, each ordered and reduced, with all its inner
 /// subtrees in the store, and beside the leaves there are at most as many trees as the limit.

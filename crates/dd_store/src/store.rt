@@ -25,7 +25,11 @@ use std::marker::Model;
 use std::num::NonZeroUsize;
 use thiserror::Error;
 
-const MEMO_ENTRIES: usize = 16384;
+/// The greatest limit of a store, in nodes.
+pub const NODE_LIMIT: u32 = 40_000;
+
+/// How many answers the memo keeps.
+pub(crate) const MEMO_ENTRIES: usize = 16_384;
 
 /// Why a store makes no node.
 #[derive(Clone, Copy, Debug, PartialEq, Eq, Error)]
@@ -84,7 +88,7 @@ impl Store {
     /// A store of the two leaves alone. Each domain is that of a level, in order.
     pub fn new(alloc: Global, domains: Vec<Domain>, limit: u32) -> Result<Store, NoMemory>
         requires codes { All IsDomain domains.items }
-        requires limit { limit ≤ 40000 }
+        requires limit { limit ≤ NODE_LIMIT }
         ensures domains { IfOk result (λ store. store.domains ≡ domains.items) }
         ensures limit { IfOk result (λ store. store.limit ≡ limit) }
         ensures trees { IfOk result (λ store. trees store ≡ leaves) }

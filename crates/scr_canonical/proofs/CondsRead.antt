@@ -4,7 +4,6 @@ use Rattle.std.specs.Prelude.{nat_le}
 use Rattle.std.specs.List.{list_all}
 use Rattle.std.proofs.lemmas.Bool.{and_parts}
 use Rattle.scr_text.specs.declared.word.Relation.{Relation}
-use Rattle.scr_text.specs.declared.word.Relation.TheVariants as r
 use Rattle.scr_text.specs.declared.word.Word.{Word}
 use Rattle.scr_text.specs.declared.word.Word.TheVariants as w
 use Rattle.scr_text.specs.declared.word.Sign.TheVariants as s
@@ -17,14 +16,15 @@ use Rattle.scr_spec.specs.declared.cond.Cond.TheFolds.{map-Cond}
 use Rattle.scr_reader.specs.declared.draft.DraftOperand.{DraftOperand}
 use Rattle.scr_reader.specs.declared.draft.DraftCond.{DraftCond}
 use Rattle.scr_reader.specs.declared.draft.DraftCond.TheVariants as d
-use Rattle.scr_reader.specs.Words.{NotAt, sign_of}
+use Rattle.scr_text.specs.Words.{relation_sign}
+use Rattle.scr_reader.specs.Words.{NotAt}
 use Rattle.scr_reader.specs.Sides.{item_of, side, Item, reference, plain_name, no_more}
 use Rattle.scr_reader.specs.Conds.{all_of, any_of, Lit, alone, compare, negated, nested, Conj, last_lit, lit_and, Cond as Joined, last_conj, conj_or}
 use Rattle.scr_printer.specs.declared.cond.Top.{Top}
 use Rattle.scr_printer.specs.declared.cond.Top.TheVariants as top
 use Rattle.scr_printer.specs.Names.{variable_name}
 use Rattle.scr_printer.specs.Sides.{truth_word, side_words}
-use Rattle.scr_printer.specs.Conds.{joined, relation_sign, in_parens, is_apart_in_and, is_apart_in_or, is_apart_in_not, Phrase, in_and, in_or, phrase_step, phrase_of}
+use Rattle.scr_printer.specs.Conds.{joined, in_parens, is_apart_in_and, is_apart_in_or, is_apart_in_not, Phrase, in_and, in_or, phrase_step, phrase_of}
 use Rattle.scr_canonical.proofs.Drafts.{draft_side, is_side_good, alone as alone_of, draft_step, draft_cond, good_step, is_cond_good}
 use Rattle.scr_canonical.proofs.SidesRead.{ends, not_at, not_relation, ends_sum, relation_ends, side_read, truth_read}
 
@@ -113,26 +113,11 @@ leaf_lit : (word : Word) (operand : DraftOperand) → ((rest : List Word) → It
 leaf_lit word operand i rest end =
     alone (side (i rest) (no_more (not_at (w.Sign s.Plus) rest end refl) (not_at (w.Sign s.Minus) rest end refl))) (not_relation rest end)
 
--- the sign that is written is the one that is read
-same_sign : (relation : Relation) → relation_sign relation ≡ sign_of relation
-same_sign r.Equal = refl
-same_sign r.Differ = refl
-same_sign r.Less = refl
-same_sign r.AtMost = refl
-same_sign r.Greater = refl
-same_sign r.AtLeast = refl
-
-signed_lit : (spec : Data) (l m : Expr) (relation : Relation) → is_side_good false l ≡ true → is_side_good false m ≡ true
-    → IsLit (side_words spec l ++ w.Sign (sign_of relation) ∷ side_words spec m) (d.Compare (draft_side spec l) relation (draft_side spec m))
-signed_lit spec l m relation h g rest end =
-    lit_at (append_assoc (side_words spec l) (w.Sign (sign_of relation) ∷ side_words spec m) rest)
-    (compare (side_read spec false l (w.Sign (sign_of relation) ∷ (side_words spec m ++ rest)) h (relation_ends relation (side_words spec m ++ rest))) (side_read spec false m rest g (ends_sum rest end)))
-
 compared_lit : (spec : Data) (l m : Expr) (relation : Relation) → is_side_good false l ≡ true → is_side_good false m ≡ true
     → IsLit (side_words spec l ++ w.Sign (relation_sign relation) ∷ side_words spec m) (d.Compare (draft_side spec l) relation (draft_side spec m))
-compared_lit spec l m relation h g =
-    subst (λ sign. IsLit (side_words spec l ++ w.Sign sign ∷ side_words spec m) (d.Compare (draft_side spec l) relation (draft_side spec m))) (sym (same_sign relation))
-    (signed_lit spec l m relation h g)
+compared_lit spec l m relation h g rest end =
+    lit_at (append_assoc (side_words spec l) (w.Sign (relation_sign relation) ∷ side_words spec m) rest)
+    (compare (side_read spec false l (w.Sign (relation_sign relation) ∷ (side_words spec m ++ rest)) h (relation_ends relation (side_words spec m ++ rest))) (side_read spec false m rest g (ends_sum rest end)))
 
 -- ---- members with AND or OR between them
 

@@ -24,7 +24,7 @@ use Rattle.scr_spec.specs.Sound.{IsSound}
 use Rattle.scr_spec.proofs.Kept.{rules_kept}
 use Rattle.scr_spec.proofs.Passing.{and_true}
 use Rattle.scr_names.specs.declared.known.Known.{Known}
-use Rattle.scr_types.specs.Tables.{told, is_count}
+use Rattle.scr_types.specs.Tables.{variable_unless, is_count}
 use Rattle.scr_types.specs.Built.{row_of}
 use Rattle.scr_types.specs.Lines.{after}
 use Rattle.scr_canonical.specs.Entries.{entries_of}
@@ -37,9 +37,9 @@ use Rattle.scr_canonical.proofs.Variables.{none_first}
 use Rattle.scr_canonical.proofs.Heads.{table_with}
 use Rattle.scr_canonical.proofs.ModesBack.{IsRowPlaced, placed_over, placed_alone, no_modes}
 
-pub told_none : (known : Known) (right : Bool) → right ≡ true → told known right ≡ None
-told_none known true h = refl
-told_none known false h = absurd (cc)
+pub none_unless : (known : Known) (right : Bool) → right ≡ true → variable_unless known right ≡ None
+none_unless known true h = refl
+none_unless known false h = absurd (cc)
 
 -- ---- one row
 
@@ -67,8 +67,8 @@ row_step spec sound ts u heading class rows row n fit count placed =
     let same : row_of known (draft_modes spec class row.modes) (map (draft_cell spec) row.cells) ≡ row =
     ap₂ (λ modes cells. row_as modes cells []) placed.coded back.resolved ∙ ap (row_as row.modes row.cells) (no_modes row.targets (second.0)) in
     step
-    (no_fault known (draft_row spec class row) refl (none_first _ _ placed.names_known back.known_names) (told_none known _ (back.typed ∙ first.1)) refl (told_none known _ back.narrow) placed.free
-    (told_none known _ (and_true _ _ placed.placed (ap (is_count rows) (length-map row.cells (draft_cell spec)) ∙ count))))
+    (no_fault known (draft_row spec class row) refl (none_first _ _ placed.names_known back.known_names) (none_unless known _ (back.typed ∙ first.1)) refl (none_unless known _ back.narrow) placed.free
+    (none_unless known _ (and_true _ _ placed.placed (ap (is_count rows) (length-map row.cells (draft_cell spec)) ∙ count))))
     (runs_to (ap (λ r. state spec (entries_of spec) ts (Some (table_with u heading class (rows ++ r ∷ []) []))) same) (no_statement (after known (draft_row spec class row))))
 
 -- ---- all rows

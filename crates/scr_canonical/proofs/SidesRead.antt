@@ -23,7 +23,8 @@ use Rattle.scr_reader.specs.declared.draft.DraftOperand.{DraftOperand}
 use Rattle.scr_reader.specs.declared.draft.DraftOperand.TheVariants as o
 use Rattle.scr_reader.specs.declared.draft.DraftItem.{DraftItem}
 use Rattle.scr_reader.specs.declared.draft.DraftSide.{DraftSide}
-use Rattle.scr_reader.specs.Words.{NotAt, NotAtRelation, sign_of, IsNatural}
+use Rattle.scr_text.specs.Words.{relation_sign}
+use Rattle.scr_reader.specs.Words.{NotAt, NotAtRelation, IsNatural}
 use Rattle.scr_reader.specs.Sides.{item_of, side_of, Reference, plain_name, primed_name, Item, number, times, reference, true_item, false_item, More, no_more, plus, minus, Side, side, minus_side}
 use Rattle.scr_printer.specs.Sides.{is_negative, minus_words, truth_word, amount_words, item_words, first_words, sign_word, more_words, sum_words, side_words}
 use Rattle.scr_canonical.proofs.Drafts.{draft_operand, draft_item, draft_side, is_amount_spelt, is_item_good, is_side_good}
@@ -84,7 +85,7 @@ pub ends_sum : (rest : List Word) → ends rest ≡ true → sum_ends rest ≡ t
 ends_sum [] h = refl
 ends_sum (word ∷ words) h = ap (λ b. b || is_relation word) h
 
-pub relation_ends : (relation : Relation) (rest : List Word) → sum_ends (w.Sign (sign_of relation) ∷ rest) ≡ true
+pub relation_ends : (relation : Relation) (rest : List Word) → sum_ends (w.Sign (relation_sign relation) ∷ rest) ≡ true
 relation_ends r.Equal rest = refl
 relation_ends r.Differ rest = refl
 relation_ends r.Less rest = refl
@@ -95,7 +96,7 @@ relation_ends r.AtLeast rest = refl
 not_sum : (word : Word) (rest : List Word) → sum_ends rest ≡ true → is_sum_end word ≡ false → NotAt word rest
 not_sum word rest h e more same = let at : is_sum_end word ≡ true = subst (λ words. sum_ends words ≡ true) same h in cc
 
-no_end : (relation : Relation) → is_end_sign (sign_of relation) ≡ false
+no_end : (relation : Relation) → is_end_sign (relation_sign relation) ≡ false
 no_end r.Equal = refl
 no_end r.Differ = refl
 no_end r.Less = refl
@@ -104,7 +105,7 @@ no_end r.Greater = refl
 no_end r.AtLeast = refl
 
 pub not_relation : (rest : List Word) → ends rest ≡ true → NotAtRelation rest
-not_relation rest h relation more same = not_at (w.Sign (sign_of relation)) rest h (no_end relation) more same
+not_relation rest h relation more same = not_at (w.Sign (relation_sign relation)) rest h (no_end relation) more same
 
 -- ---- items
 

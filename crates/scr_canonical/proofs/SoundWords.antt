@@ -9,6 +9,7 @@ use Rattle.scr_text.specs.declared.word.Word.{Word}
 use Rattle.scr_text.specs.declared.word.Word.TheVariants as w
 use Rattle.scr_text.specs.declared.word.Sign.TheVariants as s
 use Rattle.scr_text.specs.declared.word.Keyword.TheVariants as k
+use Rattle.scr_text.specs.Words.{relation_sign}
 use Rattle.scr_spec.specs.Data.{Data}
 use Rattle.scr_spec.specs.declared.cond.Owner.{Owner}
 use Rattle.scr_spec.specs.declared.cond.Owner.TheVariants as owner
@@ -36,7 +37,7 @@ use Rattle.scr_printer.specs.declared.cond.Top.{Top}
 use Rattle.scr_canonical.specs.Laws.{is_sound}
 use Rattle.scr_printer.specs.Names.{type_name, constant_name, variable_name, name_at}
 use Rattle.scr_printer.specs.Sides.{is_negative, minus_words, int_words, truth_word, operand_word, amount_words, item_words, first_words, sign_word, more_words, sum_words, side_words}
-use Rattle.scr_printer.specs.Conds.{joined, relation_sign, in_parens, is_apart_in_and, is_apart_in_or, is_apart_in_not, Phrase, in_and, in_or, phrase_step, phrase_of, cond_words}
+use Rattle.scr_printer.specs.Conds.{joined, in_parens, is_apart_in_and, is_apart_in_or, is_apart_in_not, Phrase, in_and, in_or, phrase_step, phrase_of, cond_words}
 use Rattle.scr_printer.specs.Events.{change_words, guard_words, prim_words, cell_words}
 use Rattle.scr_canonical.proofs.LinesRead.{is_there}
 use Rattle.scr_spec.proofs.Passing.{and_true, all_imply}

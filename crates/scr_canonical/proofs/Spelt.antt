@@ -1,12 +1,12 @@
 -- The words of a spaced text are its tokens.
-use Rattle.std.proofs.Common.{◌≡◌, ℕ, ℤ, pos, negsuc, suc, ◌+◌, ◌-◌, ◌*◌, ◌/◌, ◌%◌, ◌^◌, ◌<◌, ◌≤◌, Bool, true, false, ◌&&◌, ◌||◌, ◌==◌, min, List, [], ◌∷◌, ◌++◌, length, take, drop, Option, Some, None, refl, sym, ap, subst, ◌∙◌, ◌⊎◌, inl, inr, eqb-true, lit<, arith, length-append}
+use Rattle.std.proofs.Common.{◌≡◌, ℕ, ℤ, pos, negsuc, suc, ◌+◌, ◌-◌, ◌<◌, ◌≤◌, Bool, true, false, ◌&&◌, ◌||◌, ◌==◌, List, [], ◌∷◌, ◌++◌, length, take, drop, Option, Some, None, refl, sym, ap, subst, ◌∙◌, ◌⊎◌, inl, inr, eqb-true, lit<, arith, length-append}
 use Rattle.std.specs.Prelude.{nat_le, slice_index, is_none, map, codes}
 use Rattle.std.specs.Fmt.{decimal}
 use Rattle.std.specs.Char.{is_ascii_alphabetic, is_ascii_digit}
 use Rattle.std.specs.List.{list_all, prefix_len}
 use Rattle.std.proofs.Math.Seq.{take-append_seam, drop-append_seam}
 use Rattle.std.proofs.lemmas.Bool.{and_parts, leb-true}
-use Rattle.std.proofs.lemmas.Fmt.{decimal_by_steps, decimal_nonempty}
+use Rattle.std.proofs.lemmas.Fmt.{decimal_nonempty}
 use Rattle.scr_text.specs.declared.word.Word.{Word}
 use Rattle.scr_text.specs.declared.word.Word.TheVariants as w
 use Rattle.scr_text.specs.declared.word.Sign.{Sign}
@@ -15,9 +15,11 @@ use Rattle.scr_text.specs.declared.word.Keyword.{Keyword}
 use Rattle.scr_text.specs.declared.word.Keyword.TheVariants as k
 use Rattle.scr_text.specs.declared.word.Token.{Token}
 use Rattle.scr_text.specs.Piece.{is_word_byte, name_rest_len, starts, piece_len, IsLongest}
-use Rattle.scr_text.specs.Words.{keyword_of, number_from, number_of, word_of, named, primed, declaration_words, table_words, signs}
+use Rattle.scr_text.specs.declared.spelling.TheConstants.{NUMBER_LIMIT}
+use Rattle.scr_text.specs.Words.{keyword_of, decimal_of, number_of, word_of, named, primed, declaration_words, table_words, signs}
 use Rattle.scr_text.specs.Tokens.{Tokens, no_more, blank, piece}
 use Rattle.scr_text.proofs.Longest.{cuts}
+use Rattle.scr_text.proofs.Decimals.{decimal_spells}
 use Rattle.scr_spec.specs.NameSpace.{is_spelt, is_name}
 use Rattle.scr_printer.specs.declared.line.Behind.{Behind}
 use Rattle.scr_printer.specs.declared.line.Behind.TheVariants.{Opening, Event, Operand, Other}
@@ -185,44 +187,9 @@ sign_len sign rest stop = refl
 
 -- ---- numbers
 
-number_more : (n : ℕ) (bytes : List ℕ) (b : ℕ) → number_from n (bytes ++ b ∷ []) ≡ min (10 * number_from n bytes + (b - 48)) 1000001
-number_more n [] b = refl
-number_more n (d ∷ bytes) b = number_more (min (10 * n + (d - 48)) 1000001) bytes b
-
-abbrev pub Reads : ℕ → List ℕ → Type 0
-Reads n digits = (list_all is_ascii_digit digits ≡ true) × (n ≤ 1000000 → number_of digits ≡ n)
-
-digit_is : (d : ℕ) → d < 10 → is_ascii_digit (48 + d) ≡ true
-digit_is d h = grind arith
-
-one_read : (d : ℕ) → d ≤ 1000000 → min (10 * 0 + (48 + d - 48)) 1000001 ≡ d
-one_read d small = omega arith
-
-more_read : (n m : ℕ) → n ≤ 1000000 → m ≡ n / 10 → min (10 * m + (48 + n % 10 - 48)) 1000001 ≡ n
-more_read n m small e = omega arith
-
-digits_more : (bytes : List ℕ) (b : ℕ) → list_all is_ascii_digit bytes ≡ true → is_ascii_digit b ≡ true → list_all is_ascii_digit (bytes ++ b ∷ []) ≡ true
-digits_more [] b h k = rw k refl
-digits_more (d ∷ bytes) b h k =
-    let parts = and_parts (is_ascii_digit d) (list_all is_ascii_digit bytes) h in let digit = parts.0 in rw digit (digits_more bytes b (parts.1) k)
-
-less_ten : (n : ℕ) → n % 10 < 10
-less_ten n = omega arith
-
-tenth_small : (n : ℕ) → n ≤ 1000000 → n / 10 ≤ 1000000
-tenth_small n h = omega arith
-
-one_digit : (n : ℕ) → n < 10 → Reads n ((48 + n) ∷ [])
-one_digit n h = (let e = digit_is n h in rw e refl, λ small. one_read n small)
-
-more_digits : (n : ℕ) (digits : List ℕ) → 10 ≤ n → Reads (n / 10) digits → Reads n (digits ++ ((48 + n % 10) ∷ []))
-more_digits n digits h r = (
-  digits_more digits (48 + n % 10) (r.0) (digit_is (n % 10) (less_ten n)),
-  λ small. number_more 0 digits (48 + n % 10) ∙ more_read n (number_of digits) small (r.1 (tenth_small n small)),
-)
-
-pub decimal_reads : (n : ℕ) → n < 2 ^ 64 → Reads n (decimal n)
-decimal_reads n h = decimal_by_steps Reads one_digit more_digits n h
+-- a number within the limit counts as it is
+number_kept : (n : ℕ) (digits : List ℕ) → n ≤ NUMBER_LIMIT → decimal_of digits ≡ n → number_of digits ≡ n
+number_kept n digits small e = omega arith
 
 -- ---- the word of a piece
 
@@ -353,9 +320,9 @@ keyword_is_read keyword rest stop =
 number_is_read : (n : ℤ) (rest : List ℕ) → is_sound (w.Number n) ≡ true → Stops rest → IsRead (w.Number n) rest
 number_is_read (pos n) rest h stop =
     let small : n ≤ 1000000 = leb-true n 1000000 ((and_parts (nat_le 0 n) (nat_le n 1000000) h).1) in
-    let reads = decimal_reads n (omega arith) in
+    let spells = decimal_spells n (omega arith) in
     let some = decimal_nonempty n (omega arith) in
-    record { some = some; cut = number_len (decimal n) rest some (reads.0) stop; stands = number_word (decimal n) n some (reads.0) (reads.1 small) }
+    record { some = some; cut = number_len (decimal n) rest some spells.0 stop; stands = number_word (decimal n) n some spells.0 (number_kept n (decimal n) small spells.1) }
 number_is_read (negsuc n) rest h stop = absurd (cc)
 
 sign_some : (sign : Sign) → 0 < length (sign_text sign)

@@ -32,7 +32,8 @@ use Rattle.scr_printer.specs.declared.line.Behind.TheVariants.{Opening}
 use Rattle.scr_printer.specs.Spelling.{keyword_text, sign_text, spelling, behind_word, is_joined, gap, spaced}
 use Rattle.scr_canonical.specs.Laws.{is_sound}
 use Rattle.scr_printer.specs.Text.{line_text}
-use Rattle.scr_canonical.proofs.Spelt.{keyword_spelt, decimal_reads, spaced_lexes, less_one}
+use Rattle.scr_canonical.proofs.Spelt.{keyword_spelt, spaced_lexes, less_one}
+use Rattle.scr_text.proofs.Decimals.{decimal_spells}
 use Rattle.scr_canonical.proofs.LinesRead as read
 use Rattle.scr_canonical.proofs.LinesRead.{Forms}
 
@@ -75,7 +76,7 @@ spelling_ink (w.Name name) h = spelt_ink name (name_spelt name h)
 spelling_ink (w.Primed name) h = joined_ink name (codes "'") (spelt_ink name (name_spelt name h)) refl
 spelling_ink (w.Number (pos n)) h =
     let small : n ≤ 1000000 = leb-true n 1000000 ((and_parts (nat_le 0 n) (nat_le n 1000000) h).1) in
-    all_imply is_ascii_digit is_ink digit_ink (decimal n) ((decimal_reads n (omega arith)).0)
+    all_imply is_ascii_digit is_ink digit_ink (decimal n) ((decimal_spells n (omega arith)).0)
 spelling_ink (w.Number (negsuc n)) h = absurd (cc)
 spelling_ink (w.Reserved keyword) h = spelt_ink (keyword_text keyword) (keyword_spelt keyword)
 spelling_ink (w.Sign sign) h = sign_ink sign

@@ -41,7 +41,7 @@ use Rattle.scr_canonical.proofs.Declared.{Runs, step, runs_to, runs_join, no_sta
 use Rattle.scr_canonical.proofs.Variables.{none_first, right_none}
 use Rattle.scr_canonical.proofs.Heads.{table_with}
 use Rattle.scr_canonical.proofs.ModesBack.{mode_back, code_back, is_mode_back, apart_names, fresh_code}
-use Rattle.scr_canonical.proofs.Rows.{told_none, row_as}
+use Rattle.scr_canonical.proofs.Rows.{none_unless, row_as}
 
 -- ---- a transition put into rows
 
@@ -112,7 +112,7 @@ transition_step spec sound ts v rows s g x from to apart fit =
     let event : event_of known (draft_event spec (cell_event x)) ≡ cell_event x = ap (λ prims. let e : Event = record { prims = prims } in e) back.resolved in
     step
     (no_fault known (draft_transition spec v s g x) refl (none_first _ _ source.there (none_first _ _ target.there back.known_names))
-    (told_none known _ (back.typed ∙ event_typed spec x (parts.0) (two.1))) refl (told_none known _ back.narrow)
+    (none_unless known _ (back.typed ∙ event_typed spec x (parts.0) (two.1))) refl (none_unless known _ back.narrow)
     (none_first _ _ (right_none _ (mode_name spec v s) (is_mode_back known v (mode_name spec v s) s source))
     (none_first _ _ (right_none _ (mode_name spec v g) (is_mode_back known v (mode_name spec v g) g target)) (right_none _ (mode_name spec v s) (ap not (apart_names spec once v s g from to apart)))))
     refl)

@@ -34,7 +34,7 @@ use Rattle.scr_canonical.proofs.Drafts.{draft_operand, draft_item, draft_side, d
 use Rattle.scr_canonical.proofs.Resolved.{state, AreNamed, side_back, sort_back, side_known, side_narrow, first_none}
 use Rattle.scr_canonical.proofs.Declared.{Runs, step, runs_to, no_statement, no_fault}
 use Rattle.scr_canonical.proofs.Heads.{table_with}
-use Rattle.scr_canonical.proofs.Rows.{told_none}
+use Rattle.scr_canonical.proofs.Rows.{none_unless}
 
 -- ---- primes
 
@@ -147,6 +147,6 @@ values_run spec names named ts v heading class rows values over sound count =
     let known = state spec names ts cur in
     let back = values_back spec names named ts cur heading v values over sound in
     step
-    (no_fault known (draft_values spec values) refl back.names_known (told_none known _ back.typed) (told_none known _ back.within) (told_none known _ back.narrow) refl
-    (told_none known _ (ap (is_count rows) (length-map values (draft_side spec)) ∙ count)))
+    (no_fault known (draft_values spec values) refl back.names_known (none_unless known _ back.typed) (none_unless known _ back.within) (none_unless known _ back.narrow) refl
+    (none_unless known _ (ap (is_count rows) (length-map values (draft_side spec)) ∙ count)))
     (runs_to (ap (λ values. state spec names ts (Some (table_with v heading class rows values))) back.resolved) (no_statement (after known (draft_values spec values))))

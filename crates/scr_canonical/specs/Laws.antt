@@ -1,6 +1,7 @@
 -- Laws of the canonical text.
 use Rattle.std.specs.Prelude.{◌≡◌, ℕ, pos, int_le, Bool, true, false, ◌&&◌, List, [], map, Option}
 use Rattle.std.specs.List.{list_all}
+use Rattle.scr_text.specs.declared.spelling.TheConstants.{NUMBER_LIMIT}
 use Rattle.scr_text.specs.declared.word.Word.{Word}
 use Rattle.scr_text.specs.declared.word.Word.TheVariants as w
 use Rattle.scr_text.specs.declared.word.Token.{Token}
@@ -34,7 +35,7 @@ use Rattle.scr_types.specs.Texts.{Spells}
 abbrev pub is_sound : Word → Bool
 is_sound (w.Name name) = is_name name
 is_sound (w.Primed name) = is_name name
-is_sound (w.Number n) = int_le (pos 0) n && int_le n (pos 1000000)
+is_sound (w.Number n) = int_le (pos 0) n && int_le n (pos NUMBER_LIMIT)
 is_sound (w.Reserved keyword) = true
 is_sound (w.Sign sign) = true
 

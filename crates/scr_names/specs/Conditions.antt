@@ -53,7 +53,7 @@ narrow_step known (Not t) = t
 narrow_step known (And ts) = list_all (λ t. t) ts
 narrow_step known (Or ts) = list_all (λ t. t) ts
 
--- the bound of each side is at most 2,000,000,000
+-- the bound of each side is within the limit
 abbrev pub is_narrow_cond : Known → DraftCond → Bool
 is_narrow_cond known c = fold-DraftCond Bool (narrow_step known) c
 

@@ -2,6 +2,7 @@
 use Rattle.std.specs.Prelude.{ℕ, ℤ, Bool, true, false, not, ◌&&◌, ◌||◌, nat_le, List, [], map, Option, Some, None, unwrap_or}
 use Rattle.std.specs.Option.{option_map, option_map_or, option_and_then}
 use Rattle.std.specs.List.{list_any}
+use Rattle.scr_spec.specs.declared.limits.TheConstants.{SIDE_LIMIT}
 use Rattle.scr_spec.specs.declared.cond.Operand.{Operand}
 use Rattle.scr_spec.specs.declared.cond.Operand.TheVariants as made
 use Rattle.scr_spec.specs.declared.cond.Item.{Item}
@@ -82,9 +83,9 @@ draft_sort known side = sum_sort draft_factor (draft_item_sort known) side.items
 abbrev pub draft_item_bound : Known → DraftItem → ℕ
 draft_item_bound known item = item_bound (seen known) (item_of known item)
 
--- the bound is at most 2,000,000,000
+-- the bound is within the limit
 abbrev pub is_narrow_side : Known → DraftSide → Bool
-is_narrow_side known side = nat_le (side_bound (seen known) (side_of known side)) 2000000000
+is_narrow_side known side = nat_le (side_bound (seen known) (side_of known side)) SIDE_LIMIT
 
 -- ---- values of a table
 
@@ -136,10 +137,10 @@ is_value_within known v side =
 
 -- ---- what the limits on a text give
 
--- a constant is from -1,000,000 to 1,000,000
+-- a constant is within the limit on numbers
 abbrev pub is_narrow_constant : Constant → Bool
 is_narrow_constant c = is_narrow c.value
 
--- a factor is from -1,000,000 to 1,000,000
+-- a factor is within the limit on numbers
 abbrev pub is_narrow_item : DraftItem → Bool
 is_narrow_item item = is_narrow item.factor

@@ -2,6 +2,7 @@
 ghost use Rattle.std.specs.Prelude.{◌≡◌, ◌≤◌, true, length, OnOk, IfOk};
 ghost use Rattle.std.specs.List.{position};
 ghost use Rattle.std.specs.Str.{bytes_eq};
+ghost use Rattle.scr_spec.specs.declared.limits.TheConstants.{LABEL_LIMIT};
 ghost use Rattle.scr_reader.specs.Limits.{is_statement_within};
 ghost use Rattle.scr_names.specs.Declarations as spec;
 
@@ -31,7 +32,7 @@ fn add_labels(
     owner: Owner,
     labels: &[Name],
 ) -> Result<(), NoMemory>
-    requires { length labels.now ≤ 64 }
+    requires { length labels.now ≤ LABEL_LIMIT }
     ensures { OnOk result (names.new ≡ spec.with_labels names.old owner 0 labels.now) }
 {
     let mut place = 0;
@@ -91,7 +92,7 @@ impl Known {
     }
 
     fn add_list(&mut self, alloc: Global, name: &Name, labels: &[Name]) -> Result<(), NoMemory>
-        requires { length labels.now ≤ 64 }
+        requires { length labels.now ≤ LABEL_LIMIT }
         ensures { OnOk result (self.new ≡ spec.with_list self.old name.now labels.now) }
     {
         let k = self.types.len();
@@ -157,7 +158,7 @@ impl Known {
         modes: &[Name],
         init: &Name,
     ) -> Result<(), NoMemory>
-        requires { length modes.now ≤ 64 }
+        requires { length modes.now ≤ LABEL_LIMIT }
         ensures { OnOk result (self.new ≡ spec.with_class self.old name.now modes.now init.now) }
     {
         let v = self.variables.len();

@@ -6,10 +6,7 @@ ghost use Rattle.scr_names.specs.Sides as spec;
 
 use crate::known::Known;
 use scr_reader::{DraftItem, DraftSide};
-use scr_spec::{Operand, constant_value};
-
-/// The greatest bound of a side.
-const SIDE_LIMIT: u64 = 2_000_000_000;
+use scr_spec::{Operand, SIDE_LIMIT, constant_value};
 
 impl Known {
     fn variable_bound(&self, v: usize) -> u64
@@ -34,10 +31,10 @@ impl Known {
 
     /// The sum with the bound of the item, where it is within the limit.
     fn widened(&self, sum: u64, item: &DraftItem) -> Option<u64>
-        requires { sum ≤ 2000000000 }
+        requires { sum ≤ SIDE_LIMIT }
         ensures { MatchOption result
-            (2000000000 < sum + spec.draft_item_bound self.now item.now)
-            (λ more. (more ≡ sum + spec.draft_item_bound self.now item.now) × (more ≤ 2000000000)) }
+            (SIDE_LIMIT < sum + spec.draft_item_bound self.now item.now)
+            (λ more. (more ≡ sum + spec.draft_item_bound self.now item.now) × (more ≤ SIDE_LIMIT)) }
     {
         let product = item
             .factor
@@ -50,7 +47,7 @@ impl Known {
         }
     }
 
-    /// Whether the bound of the side is at most 2,000,000,000.
+    /// Whether the bound of the side is at most `SIDE_LIMIT`.
     pub fn is_narrow_side(&self, side: &DraftSide) -> bool
         ensures { result ≡ spec.is_narrow_side self.now side.now }
     {

@@ -25,7 +25,7 @@ fn is_equality(relation: Relation) -> bool
 fn are_comparable(relation: Relation, left: Sort, right: Sort) -> bool
     ensures { result ≡ typed.are_comparable relation left right }
 {
-    left.is_same(&right) && (left.is_same(&Sort::Integer) || is_equality(relation))
+    left == right && (left == Sort::Integer || is_equality(relation))
 }
 
 fn is_comparison(relation: Relation, left: Option<Sort>, right: Option<Sort>) -> bool
@@ -105,7 +105,7 @@ impl Known {
         true
     }
 
-    /// Whether the bound of each side is at most 2,000,000,000.
+    /// Whether the bound of each side is at most `SIDE_LIMIT`.
     #[cycle(narrow)]
     #[tactic(auto, using(crate::proofs::CondLaws::narrow_laws, scr_reader::specs::declared::draft::DraftCond::TheViews::the_lemmas))]
     pub fn is_narrow_cond(&self, cond: &DraftCond) -> bool

@@ -132,7 +132,7 @@ impl Known {
         self.is_narrow_change(&prim.change) && self.is_narrow_guard(&prim.guard)
     }
 
-    /// Whether the bound of each side of the event is at most 2,000,000,000.
+    /// Whether the bound of each side of the event is at most `SIDE_LIMIT`.
     pub fn is_narrow_event(&self, event: &DraftEvent) -> bool
         ensures { result ≡ spec.is_narrow_event self.now event.now }
     {
@@ -143,7 +143,7 @@ impl Known {
             .all(|prim| self.is_narrow_prim(prim))
     }
 
-    /// Whether the bound of each side of the cell is at most 2,000,000,000.
+    /// Whether the bound of each side of the cell is at most `SIDE_LIMIT`.
     pub fn is_narrow_cell(&self, cell: &DraftCell) -> bool
         ensures { result ≡ spec.is_narrow_cell self.now cell.now }
     {

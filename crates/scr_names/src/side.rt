@@ -20,7 +20,7 @@ pub(crate) fn has_sort(sort: Sort, found: Option<Sort>) -> bool
     ensures { result ≡ is_sort sort found }
 {
     match found {
-        Some(found) => sort.is_same(&found),
+        Some(found) => sort == found,
         None => false,
     }
 }

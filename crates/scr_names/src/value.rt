@@ -1,6 +1,8 @@
 //! The value of a side without variables.
 ghost use Rattle.std.specs.Prelude.{◌≡◌, ◌≤◌, ◌+◌, ◌*ℤ◌, ◌+ℤ◌, [], IsTrue, length, unsigned_abs};
 ghost use Rattle.std.specs.List.{list_all};
+ghost use Rattle.scr_text.specs.declared.spelling.TheConstants.{NUMBER_LIMIT};
+ghost use Rattle.scr_spec.specs.declared.limits.TheConstants.{ITEM_LIMIT};
 ghost use Rattle.scr_spec.specs.Meaning.{operand_value, item_value};
 ghost use Rattle.scr_spec.specs.Sorts.{constant_at};
 ghost use Rattle.scr_names.specs.Meanings.{seen, operand_meant};
@@ -13,7 +15,7 @@ use scr_spec::{Constant, variable_range};
 
 #[tactic(auto, using(crate::proofs::Products::product_bounds))]
 fn times(factor: i64, value: i64) -> i64
-    requires factor { unsigned_abs factor ≤ 1000000 }
+    requires factor { unsigned_abs factor ≤ NUMBER_LIMIT }
     requires value { unsigned_abs value ≤ 4294967296 }
     ensures value { result ≡ factor *ℤ value }
     ensures bounded { unsigned_abs result ≤ 4294967296000000 }
@@ -34,7 +36,7 @@ fn plus(sum: i64, more: i64) -> i64
 fn narrow_constant(constants: &[Constant], k: usize) -> i64
     requires { IsTrue (list_all spec.is_narrow_constant constants.now) }
     ensures value { result ≡ constant_at constants.now k }
-    ensures bounded { unsigned_abs result ≤ 1000000 }
+    ensures bounded { unsigned_abs result ≤ NUMBER_LIMIT }
 {
     match constants.get(k) {
         Some(constant) => constant.value,
@@ -86,7 +88,7 @@ impl Known {
 
     fn items_value(&self, items: &[DraftItem]) -> i64
         requires constants { IsTrue (list_all spec.is_narrow_constant self.now.constants) }
-        requires few { length items.now ≤ 8 }
+        requires few { length items.now ≤ ITEM_LIMIT }
         requires factors { IsTrue (list_all spec.is_narrow_item items.now) }
         ensures { result ≡ spec.items_value self.now items.now }
     {
@@ -119,7 +121,7 @@ impl Known {
     /// integer.
     pub fn is_value_within(&self, v: usize, side: &DraftSide) -> bool
         requires constants { IsTrue (list_all spec.is_narrow_constant self.now.constants) }
-        requires few { length side.now.items ≤ 8 }
+        requires few { length side.now.items ≤ ITEM_LIMIT }
         requires factors { IsTrue (list_all spec.is_narrow_item side.now.items) }
         ensures { result ≡ spec.is_value_within self.now v side.now }
     {

@@ -3,6 +3,7 @@ use Rattle.std.proofs.Common.{◌≡◌, append_assoc, Bool, List, [], ◌∷◌
 use Rattle.scr_text.specs.declared.word.Relation.{Relation}
 use Rattle.scr_text.specs.declared.word.Word.TheVariants as w
 use Rattle.scr_text.specs.declared.word.Keyword.TheVariants as k
+use Rattle.scr_text.specs.Words.{relation_sign}
 use Rattle.scr_spec.specs.Data.{Data}
 use Rattle.scr_spec.specs.declared.cond.Expr.{Expr}
 use Rattle.scr_spec.specs.declared.cond.Cond.{Cond, fold-roll-Cond}
@@ -11,7 +12,7 @@ use Rattle.scr_spec.specs.declared.cond.Cond.TheOpen as layer
 use Rattle.scr_printer.specs.declared.cond.Top.{Top}
 use Rattle.scr_printer.specs.declared.cond.Top.TheVariants as top
 use Rattle.scr_printer.specs.Sides.{side_words}
-use Rattle.scr_printer.specs.Conds.{joined, relation_sign, in_parens, is_apart_in_not, Phrase, phrase, in_and, in_or, phrase_step, phrase_of, cond_words}
+use Rattle.scr_printer.specs.Conds.{joined, in_parens, is_apart_in_not, Phrase, phrase, in_and, in_or, phrase_step, phrase_of, cond_words}
 use Rattle.scr_printer.proofs.Written.{map_map}
 
 pub phrase-And : (spec : Data) (cs : List Cond) → phrase_of spec (And cs) ≡ phrase top.Conjunction (joined (w.Reserved k.And) (map (λ c. in_and (phrase_of spec c)) cs))

@@ -3,11 +3,9 @@ use Rattle.std.specs.Prelude.{Bool, true, false, if◌then◌else◌, List, [], 
 use Rattle.std.specs.List.{flat_map}
 use Rattle.scr_text.specs.declared.word.Word.{Word}
 use Rattle.scr_text.specs.declared.word.Word.TheVariants as w
-use Rattle.scr_text.specs.declared.word.Sign.{Sign}
 use Rattle.scr_text.specs.declared.word.Sign.TheVariants as s
 use Rattle.scr_text.specs.declared.word.Keyword.TheVariants as k
-use Rattle.scr_text.specs.declared.word.Relation.{Relation}
-use Rattle.scr_text.specs.declared.word.Relation.TheVariants as r
+use Rattle.scr_text.specs.Words.{relation_sign}
 use Rattle.scr_spec.specs.Data.{Data}
 use Rattle.scr_spec.specs.declared.cond.Cond.{Cond, fold-Cond}
 use Rattle.scr_spec.specs.declared.cond.Cond.TheOpen.{Cond-F, Truth, Holds, Compare, Not, And, Or}
@@ -53,14 +51,6 @@ is_apart_in_not top.Conjunction = true
 is_apart_in_not top.Disjunction = true
 
 -- ---- conditions
-
-abbrev pub relation_sign : Relation → Sign
-relation_sign r.Equal = s.Equal
-relation_sign r.Differ = s.Differ
-relation_sign r.Less = s.Less
-relation_sign r.AtMost = s.AtMost
-relation_sign r.Greater = s.Greater
-relation_sign r.AtLeast = s.AtLeast
 
 -- the words of a condition, and what stands at its top
 pub record Phrase : Type 0 where

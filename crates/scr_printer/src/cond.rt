@@ -7,11 +7,10 @@ ghost use Rattle.scr_printer.specs.Pages.{written};
 ghost use Rattle.scr_printer.specs.Text.{cond_text};
 ghost use Rattle.scr_printer.specs.Conds as text;
 
-use crate::names::variable_name;
 use crate::page::Line;
 use crate::side::{put_side, put_truth};
-use scr_spec::{Cond, Spec};
-use scr_text::{Keyword, NoMemory, Relation, Sign};
+use scr_spec::{Cond, Spec, variable_name};
+use scr_text::{Keyword, NoMemory, Sign};
 
 /// What stands at the top of a condition, which decides where it has parentheses round it.
 #[derive(Clone, Copy, Debug, PartialEq, Eq)]
@@ -70,19 +69,6 @@ pub(crate) fn top_of(cond: &Cond) -> Top
     }
 }
 
-fn relation_sign(relation: Relation) -> Sign
-    ensures { result ≡ text.relation_sign relation }
-{
-    match relation {
-        Relation::Equal => Sign::Equal,
-        Relation::Differ => Sign::Differ,
-        Relation::Less => Sign::Less,
-        Relation::AtMost => Sign::AtMost,
-        Relation::Greater => Sign::Greater,
-        Relation::AtLeast => Sign::AtLeast,
-    }
-}
-
 /// Writes a reserved word before each part but the first.
 pub(crate) fn put_between(line: &mut Line, is_first: bool, word: Keyword) -> Result<(), NoMemory>
     ensures { OnOk result (line.new ≡ written line.old (text.between is_first (w.Reserved word))) }
@@ -104,7 +90,7 @@ pub(crate) fn put_cond(line: &mut Line, spec: &Spec, cond: &Cond) -> Result<(), 
         Cond::Holds(v) => line.put_name(variable_name(spec, *v)),
         Cond::Compare(left, relation, right) => {
             put_side(line, spec, left)?;
-            line.put_sign(relation_sign(*relation))?;
+            line.put_sign(relation.sign())?;
             put_side(line, spec, right)
         }
         Cond::Not(cond) => {

@@ -13,6 +13,6 @@ mod text;
 mod value;
 
 pub use cond::push_cond;
-pub use names::variable_name;
+pub use scr_spec::variable_name;
 pub use text::print;
 pub use value::{push_kind_value, push_value};

@@ -26,16 +26,6 @@ pub(crate) fn constant_name(spec: &Spec, k: usize) -> &[u8]
     }
 }
 
-/// The name of the variable with this number, empty behind the last one.
-pub fn variable_name(spec: &Spec, v: usize) -> &[u8]
-    ensures { result.now ≡ text.variable_name (data_of spec.now) v }
-{
-    match spec.variables.get(v) {
-        Some(variable) => variable.name.as_slice(),
-        None => &[],
-    }
-}
-
 /// The name at this place of the list.
 pub(crate) fn name_at(names: &[Name], code: i64) -> &[u8]
     ensures { result.now ≡ text.name_at names.now code }

@@ -8,7 +8,7 @@ use Rattle.scr_text.specs.declared.word.Keyword.TheVariants as k
 use Rattle.scr_reader.specs.declared.draft.DraftSide.{DraftSide}
 use Rattle.scr_reader.specs.declared.draft.DraftCond.{DraftCond}
 use Rattle.scr_reader.specs.declared.draft.DraftCond.TheVariants as c
-use Rattle.scr_reader.specs.Words.{sign_of}
+use Rattle.scr_text.specs.Words.{relation_sign}
 use Rattle.scr_reader.specs.Sides.{Side}
 use Rattle.scr_reader.specs.Conds.{any_of, Lit, alone, compare, negated, nested, Conj, last_lit, lit_and, Cond, last_conj, conj_or}
 use Rattle.scr_reader.proofs.Once.{no_side_not, no_side_open, behind, side_once, side_from, lit_once, conj_from, conj_once, cond_from}
@@ -33,12 +33,12 @@ cond_to {primes} {from} {ds = ds} l e = subst (λ rest. Cond primes from ds rest
 -- ---- a comparison
 
 pub compare_at : {primes : Bool} {from after next rest : List Word} {l m : DraftSide} {relation : Relation} → Side primes from l after
-    → after ≡ w.Sign (sign_of relation) ∷ next → Side primes next m rest → Lit primes from (c.Compare l relation m) rest
+    → after ≡ w.Sign (relation_sign relation) ∷ next → Side primes next m rest → Lit primes from (c.Compare l relation m) rest
 compare_at l e m = compare (side_to l e) m
 
 -- behind a side and a relation there is a side
 pub second_side : {primes : Bool} {from after next rest : List Word} {l : DraftSide} (relation : Relation) {d : DraftCond} → Side primes from l after
-    → after ≡ w.Sign (sign_of relation) ∷ next → Lit primes from d rest → (m : DraftSide) × Side primes next m rest
+    → after ≡ w.Sign (relation_sign relation) ∷ next → Lit primes from d rest → (m : DraftSide) × Side primes next m rest
 second_side relation l e (alone m g) = let f = side_once l m in absurd (g _ _ (sym f.1 ∙ e))
 second_side relation l e (compare m n) = let f = side_once l m in (_, side_from (behind (sym e ∙ f.1)) n)
 second_side relation l e (negated m) = absurd (no_side_not l)

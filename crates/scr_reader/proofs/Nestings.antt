@@ -22,7 +22,7 @@ use Rattle.scr_reader.specs.declared.draft.DraftCond.TheOpen as layer
 use Rattle.scr_reader.specs.declared.draft.DraftChange.{DraftChange}
 use Rattle.scr_reader.specs.declared.draft.DraftPrim.{DraftPrim}
 use Rattle.scr_reader.specs.declared.draft.DraftCell.{DraftCell}
-use Rattle.scr_reader.specs.Words.{sign_of}
+use Rattle.scr_text.specs.Words.{relation_sign}
 use Rattle.scr_reader.specs.Limits.{depth_after, is_nested_within, nots_after, is_negated_within}
 use Rattle.scr_reader.specs.Nesting.{nots_step, nots_deep, ands_step, ands_deep, ors_step, ors_deep, is_shallow, is_change_shallow, is_prim_shallow, is_cell_shallow}
 use Rattle.scr_spec.proofs.Passing.{and_true}
@@ -48,7 +48,7 @@ step {depth} {nots} word from k =
     record { nested = open_parts.1; negated = nots_parts.1; few_open = leb-true _ _ open_parts.0; few_nots = leb-true _ _ nots_parts.0 }
 
 -- behind a relation
-relation_step : {depth nots : ℕ} (relation : Relation) (from : List Word) → IsLimited depth nots (w.Sign (sign_of relation) ∷ from) → IsLimited depth nots from
+relation_step : {depth nots : ℕ} (relation : Relation) (from : List Word) → IsLimited depth nots (w.Sign (relation_sign relation) ∷ from) → IsLimited depth nots from
 relation_step r.Equal from k = step (w.Sign s.Equal) from k
 relation_step r.Differ from k = step (w.Sign s.Differ) from k
 relation_step r.Less from k = step (w.Sign s.Less) from k

@@ -18,7 +18,7 @@ use Rattle.scr_reader.specs.declared.draft.DraftChange.TheVariants as change
 use Rattle.scr_reader.specs.declared.draft.DraftPrim.{DraftPrim}
 use Rattle.scr_reader.specs.declared.draft.DraftCell.{DraftCell}
 use Rattle.scr_reader.specs.declared.draft.DraftCell.TheVariants as cell
-use Rattle.scr_reader.specs.Words.{sign_of}
+use Rattle.scr_text.specs.Words.{relation_sign}
 use Rattle.scr_reader.specs.Sides.{item_of, side_of, turned, Reference, plain_name, primed_name, Item, number, times, reference, true_item, false_item, More, no_more, plus, minus, Side, side, minus_side}
 use Rattle.scr_reader.specs.Conds.{all_of, any_of, Lit, alone, compare, negated, nested, Conj, last_lit, lit_and, Cond, last_conj, conj_or}
 use Rattle.scr_reader.specs.Events.{prim_of, event_of, Change, becomes, ceases, changes, Prim, never, unguarded, guarded, Event, last_prim, prim_or, Cell, condition, event, Cells, last_cell, cell_bar, Sides, last_side, side_bar}
@@ -34,18 +34,18 @@ relation_of s.Greater = r.Greater
 relation_of s.AtLeast = r.AtLeast
 relation_of sign = r.Equal
 
-relation_of-sign_of : (relation : Relation) → relation_of (sign_of relation) ≡ relation
+relation_of-relation_sign : (relation : Relation) → relation_of (relation_sign relation) ≡ relation
 unfolding relation_of
-relation_of-sign_of r.Equal = refl
-relation_of-sign_of r.Differ = refl
-relation_of-sign_of r.Less = refl
-relation_of-sign_of r.AtMost = refl
-relation_of-sign_of r.Greater = refl
-relation_of-sign_of r.AtLeast = refl
+relation_of-relation_sign r.Equal = refl
+relation_of-relation_sign r.Differ = refl
+relation_of-relation_sign r.Less = refl
+relation_of-relation_sign r.AtMost = refl
+relation_of-relation_sign r.Greater = refl
+relation_of-relation_sign r.AtLeast = refl
 
 -- a sign is of one relation
-pub relation_once : (a b : Relation) → sign_of a ≡ sign_of b → a ≡ b
-relation_once a b e = sym (relation_of-sign_of a) ∙ ap relation_of e ∙ relation_of-sign_of b
+pub relation_once : (a b : Relation) → relation_sign a ≡ relation_sign b → a ≡ b
+relation_once a b e = sym (relation_of-relation_sign a) ∙ ap relation_of e ∙ relation_of-relation_sign b
 
 -- ---- items and sides
 
@@ -118,8 +118,8 @@ conj_from {primes} {rest = rest} {ds = ds} e m = subst (λ from. Conj primes fro
 pub cond_from : {primes : Bool} {a b rest : List Word} {ds : List DraftCond} → a ≡ b → Cond primes b ds rest → Cond primes a ds rest
 cond_from {primes} {rest = rest} {ds = ds} e m = subst (λ from. Cond primes from ds rest) (sym e) m
 
-front_once : {a b : List Word} {relation other : Relation} → w.Sign (sign_of relation) ∷ a ≡ w.Sign (sign_of other) ∷ b → relation ≡ other
-front_once {relation = relation} {other = other} e = let f : sign_of relation ≡ sign_of other = cc in relation_once relation other f
+front_once : {a b : List Word} {relation other : Relation} → w.Sign (relation_sign relation) ∷ a ≡ w.Sign (relation_sign other) ∷ b → relation ≡ other
+front_once {relation = relation} {other = other} e = let f : relation_sign relation ≡ relation_sign other = cc in relation_once relation other f
 
 compare_same : {l m n o : DraftSide} {relation other : Relation} → l ≡ m → relation ≡ other → n ≡ o → c.Compare l relation n ≡ c.Compare m other o
 compare_same e f g = cc

@@ -8,7 +8,8 @@ use Rattle.scr_text.specs.declared.word.Keyword.TheVariants as k
 use Rattle.scr_reader.specs.declared.draft.DraftSide.{DraftSide}
 use Rattle.scr_reader.specs.declared.draft.DraftCond.{DraftCond}
 use Rattle.scr_reader.specs.declared.draft.DraftCond.TheVariants as c
-use Rattle.scr_reader.specs.Words.{NotAt, NotAtRelation, sign_of}
+use Rattle.scr_text.specs.Words.{relation_sign}
+use Rattle.scr_reader.specs.Words.{NotAt, NotAtRelation}
 use Rattle.scr_reader.specs.Sides.{Side}
 
 -- one member is itself
@@ -26,7 +27,7 @@ mutual
   -- NOT lit, a condition in parentheses, or a side, alone or compared with another
   pub data Lit : Bool → List Word → DraftCond → List Word → Type 0 where
     alone : {primes : Bool} {from rest : List Word} {l : DraftSide} → Side primes from l rest → NotAtRelation rest → Lit primes from (c.Alone l) rest
-    compare : {primes : Bool} {from mid rest : List Word} {l m : DraftSide} {relation : Relation} → Side primes from l (w.Sign (sign_of relation) ∷ mid)
+    compare : {primes : Bool} {from mid rest : List Word} {l m : DraftSide} {relation : Relation} → Side primes from l (w.Sign (relation_sign relation) ∷ mid)
         → Side primes mid m rest → Lit primes from (c.Compare l relation m) rest
     negated : {primes : Bool} {from rest : List Word} {d : DraftCond} → Lit primes from d rest → Lit primes (w.Reserved k.Not ∷ from) (c.Not d) rest
     nested : {primes : Bool} {from rest : List Word} {ds : List DraftCond} → Cond primes from ds (w.Sign s.CloseParen ∷ rest)

@@ -5,6 +5,7 @@ use Rattle.scr_text.specs.declared.word.Word.{Word}
 use Rattle.scr_text.specs.declared.word.Word.TheVariants as w
 use Rattle.scr_text.specs.declared.word.Sign.TheVariants as s
 use Rattle.scr_text.specs.declared.word.Keyword.TheVariants as k
+use Rattle.scr_spec.specs.declared.limits.TheConstants.{CELL_LIMIT, CONSTANT_LIMIT, FACTOR_LIMIT, ITEM_LIMIT, LABEL_LIMIT, NESTING_LIMIT, NOT_LIMIT, RANGE_LIMIT, ROW_LIMIT, TYPE_LIMIT, VARIABLE_LIMIT}
 use Rattle.scr_reader.specs.declared.draft.DraftOperand.{DraftOperand}
 use Rattle.scr_reader.specs.declared.draft.DraftOperand.TheVariants as o
 use Rattle.scr_reader.specs.declared.draft.DraftItem.{DraftItem}
@@ -29,10 +30,10 @@ depth_after depth (w.Sign s.OpenParen) = suc depth
 depth_after depth (w.Sign s.CloseParen) = depth - 1
 depth_after depth word = depth
 
--- at most 64 parentheses are open at each place
+-- no more parentheses are open at each place than may be
 abbrev pub is_nested_within : ℕ → List Word → Bool
 is_nested_within depth [] = true
-is_nested_within depth (word ∷ rest) = nat_le (depth_after depth word) 64 && is_nested_within (depth_after depth word) rest
+is_nested_within depth (word ∷ rest) = nat_le (depth_after depth word) NESTING_LIMIT && is_nested_within (depth_after depth word) rest
 
 -- how many NOT stand behind the last bar
 abbrev pub nots_after : ℕ → Word → ℕ
@@ -40,32 +41,32 @@ nots_after nots (w.Reserved k.Not) = suc nots
 nots_after nots (w.Sign s.Bar) = 0
 nots_after nots word = nots
 
--- each part between bars has at most 64 NOT
+-- each part between bars has no more NOT than may be
 abbrev pub is_negated_within : ℕ → List Word → Bool
 is_negated_within nots [] = true
-is_negated_within nots (word ∷ rest) = nat_le (nots_after nots word) 64 && is_negated_within (nots_after nots word) rest
+is_negated_within nots (word ∷ rest) = nat_le (nots_after nots word) NOT_LIMIT && is_negated_within (nots_after nots word) rest
 
 abbrev pub is_bar : Word → Bool
 is_bar (w.Sign s.Bar) = true
 is_bar word = false
 
--- at most 64 open parentheses at each place, at most 64 NOT in each part, and at most 15 bars
+-- so many open parentheses at each place, so many NOT in each part, and bars for so many cells as may be
 abbrev pub is_line_within : List Word → Bool
-is_line_within words = is_nested_within 0 words && is_negated_within 0 words && nat_le (count_by is_bar words) 15
+is_line_within words = is_nested_within 0 words && is_negated_within 0 words && nat_le (count_by is_bar words) (CELL_LIMIT - 1)
 
 -- ---- the parts of a statement
 
--- a factor before a name is from -1,000 to 1,000
+-- a factor before a name is within its limit
 abbrev pub is_factor_within : ℤ → DraftOperand → Bool
 is_factor_within factor o.One = true
-is_factor_within factor operand = nat_le (unsigned_abs factor) 1000
+is_factor_within factor operand = nat_le (unsigned_abs factor) FACTOR_LIMIT
 
 abbrev pub is_item_within : DraftItem → Bool
 is_item_within item = is_factor_within item.factor item.operand
 
--- at most 8 items
+-- no more items than may be
 abbrev pub is_side_within : DraftSide → Bool
-is_side_within side = nat_le (length side.items) 8 && list_all is_item_within side.items
+is_side_within side = nat_le (length side.items) ITEM_LIMIT && list_all is_item_within side.items
 
 abbrev pub within_step : DraftCond-F Bool → Bool
 within_step (Alone l) = is_side_within l
@@ -91,16 +92,16 @@ abbrev pub is_cell_within : DraftCell → Bool
 is_cell_within (cell.Cond d) = is_cond_within d
 is_cell_within (cell.Event e) = list_all is_prim_within e.prims
 
--- at most 8,192 values
+-- no more values than may be
 abbrev pub is_range_within : ℤ → ℤ → Bool
-is_range_within lo hi = int_le (hi -ℤ lo) (pos 8191)
+is_range_within lo hi = int_le (hi -ℤ lo) (pos (RANGE_LIMIT - 1))
 
--- at most 64 names in a list, a range within its limit, and each side within its limits
+-- a list of names and a range within their limits, and each side within its limits
 abbrev pub is_statement_within : Statement → Bool
 is_statement_within (st.Range name lo hi) = is_range_within lo hi
-is_statement_within (st.Labels name names) = nat_le (length names) 64
-is_statement_within (st.Class name modes first) = nat_le (length modes) 64
-is_statement_within (st.Row modes cells) = nat_le (length modes) 64 && list_all is_cell_within cells
+is_statement_within (st.Labels name names) = nat_le (length names) LABEL_LIMIT
+is_statement_within (st.Class name modes first) = nat_le (length modes) LABEL_LIMIT
+is_statement_within (st.Row modes cells) = nat_le (length modes) LABEL_LIMIT && list_all is_cell_within cells
 is_statement_within (st.Values sides) = list_all is_side_within sides
 is_statement_within (st.Transition source target e) = list_all is_prim_within e.prims
 is_statement_within (st.Specification name) = true
@@ -132,6 +133,6 @@ counted counts (st.Values sides) = counts
 counted counts st.End = counts
 counted counts st.Finish = counts
 
--- at most 64 TYPE lines, 256 CONST lines, 128 variables, and 64 ROW or FROM lines of a table
+-- no more TYPE lines, CONST lines, variables, and ROW or FROM lines of a table than may be
 abbrev pub is_count_within : Counts → Bool
-is_count_within counts = nat_le counts.types 64 && nat_le counts.constants 256 && nat_le counts.variables 128 && nat_le counts.rows 64
+is_count_within counts = nat_le counts.types TYPE_LIMIT && nat_le counts.constants CONSTANT_LIMIT && nat_le counts.variables VARIABLE_LIMIT && nat_le counts.rows ROW_LIMIT

@@ -1,7 +1,8 @@
 -- How often each joining word stands on a path from the root of a condition to a leaf.
-use Rattle.std.specs.Prelude.{ℕ, suc, Bool, true, ◌&&◌, nat_le}
+use Rattle.std.specs.Prelude.{ℕ, suc, ◌+◌, Bool, true, ◌&&◌, nat_le}
 use Rattle.std.specs.Option.{option_map_or}
 use Rattle.std.specs.List.{list_all}
+use Rattle.scr_spec.specs.declared.limits.TheConstants.{NESTING_LIMIT, NOT_LIMIT}
 use Rattle.scr_spec.specs.Depth.{greatest}
 use Rattle.scr_reader.specs.declared.draft.DraftCond.{DraftCond, fold-DraftCond}
 use Rattle.scr_reader.specs.declared.draft.DraftCond.TheOpen.{DraftCond-F, Alone, Compare, Not, And, Or}
@@ -46,9 +47,9 @@ ors_step (Or ns) = suc (greatest ns)
 abbrev pub ors_deep : DraftCond → ℕ
 ors_deep d = fold-DraftCond ℕ ors_step d
 
--- at most 64 NOT, 65 AND and 65 OR
+-- so many NOT, AND and OR as the limits on NOT and on parentheses allow
 abbrev pub is_shallow : DraftCond → Bool
-is_shallow d = nat_le (nots_deep d) 64 && nat_le (ands_deep d) 65 && nat_le (ors_deep d) 65
+is_shallow d = nat_le (nots_deep d) NOT_LIMIT && nat_le (ands_deep d) (NESTING_LIMIT + 1) && nat_le (ors_deep d) (NESTING_LIMIT + 1)
 
 -- ---- in a line
 

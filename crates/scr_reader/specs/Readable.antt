@@ -3,6 +3,7 @@
 use Rattle.std.specs.Prelude.{◌≡◌, ℕ, pos, int_le, nat_le, Bool, true, false, ◌&&◌, if◌then◌else◌, List, [], ◌∷◌, length, Option, Some, None}
 use Rattle.std.specs.Option.{option_map_or, option_and_then}
 use Rattle.std.specs.List.{list_all}
+use Rattle.scr_spec.specs.declared.limits.TheConstants.{CELL_LIMIT}
 use Rattle.scr_spec.specs.NameSpace.{is_name}
 use Rattle.scr_spec.specs.Types.{is_narrow}
 use Rattle.scr_spec.specs.declared.spec.Role.{Role}
@@ -121,8 +122,8 @@ is_over_spelt h.Condition over = option_map_or is_name over true
 is_over_spelt h.Event over = option_map_or is_name over true
 is_over_spelt h.Modes over = option_map_or (λ name. false) over true
 
--- the words of a line can say the statement: its integers are from -1,000,000 to 1,000,000, its names are names of
--- the language, no list but that of a row's modes is empty, and a row has at most 16 cells
+-- the words of a line can say the statement: its integers are within the limit on numbers, its names are names of
+-- the language, no list but that of a row's modes is empty, and a row has no more cells than may be
 abbrev pub is_statement_spelt : Statement → Bool
 is_statement_spelt (st.Specification name) = is_name name
 is_statement_spelt (st.Range name lo hi) = is_name name && is_narrow lo && is_narrow hi
@@ -132,8 +133,8 @@ is_statement_spelt (st.Variable role name kind init) = is_name name && is_kind_s
 is_statement_spelt (st.Class name modes first) = is_name name && are_some is_name modes && is_name first
 is_statement_spelt (st.Head heading name over) = is_name name && is_over_spelt heading over
 is_statement_spelt (st.Nat name n) = is_name name && int_le (pos 0) n && is_narrow n
-is_statement_spelt (st.Row modes cells) = list_all is_name modes && are_some is_cell_spelt cells && nat_le (length cells) 16
-is_statement_spelt (st.Values sides) = are_some (is_side_spelt true) sides && nat_le (length sides) 16
+is_statement_spelt (st.Row modes cells) = list_all is_name modes && are_some is_cell_spelt cells && nat_le (length cells) CELL_LIMIT
+is_statement_spelt (st.Values sides) = are_some (is_side_spelt true) sides && nat_le (length sides) CELL_LIMIT
 is_statement_spelt (st.Transition source target e) = is_name source && is_name target && is_event_spelt e
 is_statement_spelt st.End = true
 is_statement_spelt st.Finish = true

@@ -17,6 +17,7 @@ use Rattle.scr_reader.specs.declared.place.TextFault.{TextFault}
 use Rattle.scr_reader.specs.declared.place.TextFault.TheVariants as fault
 use Rattle.scr_reader.specs.declared.place.LineFault.{LineFault}
 use Rattle.scr_reader.specs.declared.place.LineFault.TheVariants as why
+use Rattle.scr_reader.specs.declared.text.TheConstants.{TEXT_LIMIT}
 use Rattle.scr_reader.specs.Words.{words}
 use Rattle.scr_reader.specs.Forms.{Form, NoForm}
 use Rattle.scr_reader.specs.Limits.{is_line_within, is_statement_within, counted, is_count_within, no_counts}
@@ -100,7 +101,7 @@ pub record LinesRead (ls : List (List ℕ)) (draft : List Numbered) : Type 0 whe
 
 -- the text is these statements
 pub record TextReads (text : List ℕ) (draft : List Numbered) : Type 0 where
-  pub size : length text ≤ 1048576
+  pub size : length text ≤ TEXT_LIMIT
   pub lines : LinesRead (lines text) draft
 
 -- the lines are refused with this fault; memory may run out at any lines
@@ -112,7 +113,7 @@ LinesFail ls (fault.Refused line kind) = Refused start 1 ls line kind
 abbrev pub TextRefuses : List ℕ → TextFault → Type 0
 TextRefuses text fault.NoMemory = Unit {0}
 TextRefuses text (fault.Refused line kind) =
-    ((1048576 < length text) × (line ≡ 0) × (kind ≡ k.Limit)) ⊎ ((length text ≤ 1048576) × Refused start 1 (lines text) line kind)
+    ((TEXT_LIMIT < length text) × (line ≡ 0) × (kind ≡ k.Limit)) ⊎ ((length text ≤ TEXT_LIMIT) × Refused start 1 (lines text) line kind)
 
 -- a text is read in one way or refused in one way, and never neither
 pub record OneOutcome : Type 0 where

@@ -3,11 +3,9 @@ use Rattle.std.specs.Prelude.{◌≡◌, ℕ, ℤ, pos, ◌≤ℤ◌, List, ◌�
 use Rattle.scr_text.specs.declared.word.Token.{Token}
 use Rattle.scr_text.specs.declared.word.Word.{Word}
 use Rattle.scr_text.specs.declared.word.Word.TheVariants as w
-use Rattle.scr_text.specs.declared.word.Sign.{Sign}
-use Rattle.scr_text.specs.declared.word.Sign.TheVariants as s
 use Rattle.scr_text.specs.declared.word.Keyword.{Keyword}
 use Rattle.scr_text.specs.declared.word.Relation.{Relation}
-use Rattle.scr_text.specs.declared.word.Relation.TheVariants as r
+use Rattle.scr_text.specs.Words.{relation_sign}
 
 abbrev pub words : List Token → List Word
 words tokens = map (λ t. t.word) tokens
@@ -36,15 +34,6 @@ NotAtNumber from = (n : ℤ) (rest : List Word) → IsNatural n → from ≡ w.N
 abbrev pub NotAtKeyword : List Word → Type 0
 NotAtKeyword from = (keyword : Keyword) (rest : List Word) → from ≡ w.Reserved keyword ∷ rest → ⊥
 
--- the sign of a relation
-abbrev pub sign_of : Relation → Sign
-sign_of r.Equal = s.Equal
-sign_of r.Differ = s.Differ
-sign_of r.Less = s.Less
-sign_of r.AtMost = s.AtMost
-sign_of r.Greater = s.Greater
-sign_of r.AtLeast = s.AtLeast
-
 -- the words do not begin with a relation
 abbrev pub NotAtRelation : List Word → Type 0
-NotAtRelation from = (relation : Relation) (rest : List Word) → from ≡ w.Sign (sign_of relation) ∷ rest → ⊥
+NotAtRelation from = (relation : Relation) (rest : List Word) → from ≡ w.Sign (relation_sign relation) ∷ rest → ⊥

@@ -9,10 +9,14 @@ use crate::{
     Counts, DraftCell, DraftChange, DraftCond, DraftItem, DraftOperand, DraftPrim, DraftSide,
     Statement,
 };
+use scr_spec::{
+    CELL_LIMIT, CONSTANT_LIMIT, FACTOR_LIMIT, ITEM_LIMIT, LABEL_LIMIT, NESTING_LIMIT, NOT_LIMIT,
+    RANGE_LIMIT, ROW_LIMIT, TYPE_LIMIT, VARIABLE_LIMIT,
+};
 use scr_text::{Keyword, Sign, Token, Word};
 
 fn depth_after(depth: u32, word: &Word) -> u32
-    requires { depth ≤ 64 }
+    requires { depth ≤ NESTING_LIMIT }
     ensures { result ≡ spec.depth_after depth word.now }
 {
     match word {
@@ -28,7 +32,7 @@ fn is_nested_within(tokens: &[Token]) -> bool
     let mut depth = 0;
     for token in tokens {
         depth = depth_after(depth, &token.word);
-        if depth > 64 {
+        if depth > NESTING_LIMIT {
             return false;
         }
     }
@@ -36,7 +40,7 @@ fn is_nested_within(tokens: &[Token]) -> bool
 }
 
 fn nots_after(nots: u32, word: &Word) -> u32
-    requires { nots ≤ 64 }
+    requires { nots ≤ NOT_LIMIT }
     ensures { result ≡ spec.nots_after nots word.now }
 {
     match word {
@@ -52,7 +56,7 @@ fn is_negated_within(tokens: &[Token]) -> bool
     let mut nots = 0;
     for token in tokens {
         nots = nots_after(nots, &token.word);
-        if nots > 64 {
+        if nots > NOT_LIMIT {
             return false;
         }
     }
@@ -65,14 +69,14 @@ fn is_bar(word: &Word) -> bool
     matches!(word, Word::Sign(Sign::Bar))
 }
 
-/// Whether a line has at most 64 open parentheses at each place, at most 64 `NOT` in each part and
-/// at most 15 bars.
+/// Whether a line opens no more parentheses at each place, and has no more `NOT` in each part and no
+/// more bars, than may be.
 pub(crate) fn is_line_within(tokens: &[Token]) -> bool
     ensures { result ≡ spec.is_line_within (words tokens.now) }
 {
     is_nested_within(tokens)
         && is_negated_within(tokens)
-        && tokens.iter().filter(|token| is_bar(&token.word)).count() <= 15
+        && tokens.iter().filter(|token| is_bar(&token.word)).count() <= CELL_LIMIT - 1
 }
 
 fn is_item_within(item: &DraftItem) -> bool
@@ -80,7 +84,7 @@ fn is_item_within(item: &DraftItem) -> bool
 {
     match item.operand {
         DraftOperand::One => true,
-        _ => item.factor.unsigned_abs() <= 1000,
+        _ => item.factor.unsigned_abs() <= FACTOR_LIMIT,
     }
 }
 
@@ -93,7 +97,7 @@ fn are_items_within(items: &[DraftItem]) -> bool
 fn is_side_within(side: &DraftSide) -> bool
     ensures { result ≡ spec.is_side_within side.now }
 {
-    side.items.len() <= 8 && are_items_within(side.items.as_slice())
+    side.items.len() <= ITEM_LIMIT && are_items_within(side.items.as_slice())
 }
 
 fn are_sides_within(sides: &[DraftSide]) -> bool
@@ -175,7 +179,7 @@ fn are_cells_within(cells: &[DraftCell]) -> bool
 fn is_range_within(low: i64, high: i64) -> bool
     ensures { result ≡ spec.is_range_within low high }
 {
-    high.saturating_sub(low) <= 8191
+    high.saturating_sub(low) <= RANGE_LIMIT as i64 - 1
 }
 
 /// Whether a statement keeps the limits on its lists of names, its range and its sides.
@@ -184,9 +188,11 @@ pub(crate) fn is_statement_within(statement: &Statement) -> bool
 {
     match statement {
         Statement::Range(_, low, high) => is_range_within(*low, *high),
-        Statement::Labels(_, names) => names.len() <= 64,
-        Statement::Class(_, modes, _) => modes.len() <= 64,
-        Statement::Row(modes, cells) => { modes.len() <= 64 && are_cells_within(cells.as_slice()) }
+        Statement::Labels(_, names) => names.len() <= LABEL_LIMIT,
+        Statement::Class(_, modes, _) => modes.len() <= LABEL_LIMIT,
+        Statement::Row(modes, cells) => {
+            modes.len() <= LABEL_LIMIT && are_cells_within(cells.as_slice())
+        }
         Statement::Values(sides) => are_sides_within(sides.as_slice()),
         Statement::Transition(_, _, event) => are_prims_within(event.prims.as_slice()),
         _ => true,
@@ -232,10 +238,13 @@ pub(crate) fn counted(counts: Counts, statement: &Statement) -> Counts
     }
 }
 
-/// Whether at most 64 `TYPE` lines, 256 `CONST` lines, 128 variables, and 64 `ROW` or `FROM` lines
-/// of a table came so far.
+/// Whether no more `TYPE` lines, `CONST` lines, variables, and `ROW` or `FROM` lines of a table came
+/// so far than may.
 pub(crate) fn is_count_within(counts: Counts) -> bool
     ensures { result ≡ spec.is_count_within counts }
 {
-    counts.types <= 64 && counts.constants <= 256 && counts.variables <= 128 && counts.rows <= 64
+    counts.types as usize <= TYPE_LIMIT
+        && counts.constants as usize <= CONSTANT_LIMIT
+        && counts.variables as usize <= VARIABLE_LIMIT
+        && counts.rows as usize <= ROW_LIMIT
 }

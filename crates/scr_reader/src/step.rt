@@ -2,7 +2,8 @@
 
 ghost use Rattle.std.specs.Prelude.{◌≡◌, ℕ, ◌↔◌, List, [], ◌∷◌, IsTrue, MatchOption};
 ghost use Rattle.scr_text.specs.declared.word.Relation.{Relation};
-ghost use Rattle.scr_reader.specs.Words.{words, sign_of, NotAt, NotAtName, NotAtNameBefore, NotAtNumber, NotAtKeyword, NotAtRelation, IsNatural};
+ghost use Rattle.scr_text.specs.Words.{relation_sign};
+ghost use Rattle.scr_reader.specs.Words.{words, NotAt, NotAtName, NotAtNameBefore, NotAtNumber, NotAtKeyword, NotAtRelation, IsNatural};
 
 use scr_text::{Keyword, Name, Relation, Sign, Token, Word};
 
@@ -108,8 +109,8 @@ pub(crate) fn lone_name_behind(tokens: &[Token], keyword: Keyword) -> Option<&Na
 }
 
 fn relation_of(sign: Sign) -> Option<Relation>
-    ensures { MatchOption result ((relation : Relation) → sign ≡ sign_of relation → ⊥)
-        (λ relation. sign ≡ sign_of relation) }
+    ensures { MatchOption result ((relation : Relation) → sign ≡ relation_sign relation → ⊥)
+        (λ relation. sign ≡ relation_sign relation) }
 {
     match sign {
         Sign::Equal => Some(Relation::Equal),
@@ -125,7 +126,7 @@ fn relation_of(sign: Sign) -> Option<Relation>
 /// The relation in front.
 pub(crate) fn take_relation(tokens: &[Token]) -> Option<(Relation, &[Token])>
     ensures { MatchOption result (NotAtRelation (words tokens.now))
-        (λ x. words tokens.now ≡ Word.Sign (sign_of x.0) ∷ words x.1.now) }
+        (λ x. words tokens.now ≡ Word.Sign (relation_sign x.0) ∷ words x.1.now) }
 {
     match first_word(tokens) {
         Some((Word::Sign(sign), rest)) => match relation_of(*sign) {

@@ -4,6 +4,7 @@ use Rattle.std.specs.Option.{option_map_or}
 use Rattle.std.specs.Ordering.{int_eq}
 use Rattle.std.specs.List.{list_all, list_any}
 use Rattle.scr_spec.specs.Data.{Data}
+use Rattle.scr_spec.specs.declared.limits.TheConstants.{CELL_LIMIT, ROW_LIMIT}
 use Rattle.scr_spec.specs.declared.table.Cell.{Cell}
 use Rattle.scr_spec.specs.declared.table.Cell.TheVariants.{Cond, Event}
 use Rattle.scr_spec.specs.declared.table.Row.{Row}
@@ -58,15 +59,15 @@ is_class_over spec (Some v) = nat_lt v (length spec.variables)
 abbrev pub is_row_over : Data → Row → Bool
 is_row_over spec row = list_all (is_cell_over spec) row.cells && list_all is_narrow row.modes && list_all is_narrow row.targets
 
--- a ROW line has at most 16 cells, and the rows of a mode table come from at most 64 FROM lines
+-- the most cells of a ROW line; a row of a mode table has one for each of its FROM lines at most
 abbrev pub greatest_width : Heading → ℕ
-greatest_width Condition = 16
-greatest_width Events = 16
-greatest_width Modes = 64
+greatest_width Condition = CELL_LIMIT
+greatest_width Events = CELL_LIMIT
+greatest_width Modes = ROW_LIMIT
 
--- at most 64 rows, of at most that many cells
+-- no more rows than may be, each of at most that many cells
 abbrev pub is_small : Table → Bool
-is_small table = nat_le (length table.rows) 64 && list_all (λ r. nat_le (length r.cells) (greatest_width table.heading)) table.rows
+is_small table = nat_le (length table.rows) ROW_LIMIT && list_all (λ r. nat_le (length r.cells) (greatest_width table.heading)) table.rows
 
 -- each part of the table is one over the specification
 abbrev pub is_table_over : Data → Table → Bool

@@ -1,5 +1,6 @@
 -- How deep a condition is, and how often each joining word stands on a path from its root to a leaf.
-use Rattle.std.specs.Prelude.{ℕ, suc, max, Bool, ◌&&◌, nat_le, List, [], ◌∷◌}
+use Rattle.std.specs.Prelude.{ℕ, suc, ◌+◌, max, Bool, ◌&&◌, nat_le, List, [], ◌∷◌}
+use Rattle.scr_spec.specs.declared.limits.TheConstants.{NESTING_LIMIT, NOT_LIMIT}
 use Rattle.scr_spec.specs.declared.cond.Cond.{Cond, fold-Cond}
 use Rattle.scr_spec.specs.declared.cond.Cond.TheOpen.{Cond-F, Truth, Holds, Compare, Not, And, Or}
 
@@ -56,6 +57,6 @@ ors_step (Or ns) = suc (greatest ns)
 abbrev pub ors_deep : Cond → ℕ
 ors_deep c = fold-Cond ℕ ors_step c
 
--- on each path at most 64 NOT, 65 AND and 65 OR
+-- on each path so many NOT, AND and OR as the limits on NOT and on parentheses allow
 abbrev pub is_shallow : Cond → Bool
-is_shallow c = nat_le (nots_deep c) 64 && nat_le (ands_deep c) 65 && nat_le (ors_deep c) 65
+is_shallow c = nat_le (nots_deep c) NOT_LIMIT && nat_le (ands_deep c) (NESTING_LIMIT + 1) && nat_le (ors_deep c) (NESTING_LIMIT + 1)

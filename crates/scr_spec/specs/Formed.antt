@@ -2,6 +2,8 @@
 -- prime may stand.
 use Rattle.std.specs.Prelude.{ℕ, unsigned_abs, Bool, true, false, ◌&&◌, nat_le, length, Option, is_none}
 use Rattle.std.specs.List.{list_all}
+use Rattle.scr_text.specs.declared.spelling.TheConstants.{NUMBER_LIMIT}
+use Rattle.scr_spec.specs.declared.limits.TheConstants.{FACTOR_LIMIT, ITEM_LIMIT}
 use Rattle.scr_spec.specs.declared.cond.Operand.{Operand}
 use Rattle.scr_spec.specs.declared.cond.Operand.TheVariants.{One, Truth as Flag, Constant, Label, Variable, Primed}
 use Rattle.scr_spec.specs.declared.cond.Item.{Item}
@@ -15,21 +17,21 @@ use Rattle.scr_spec.specs.declared.table.Event.{Event}
 
 -- ---- sides
 
--- a number is at most 1,000,000, and a factor before another operand at most 1,000
+-- that of a number, and of a factor before another operand
 abbrev pub greatest_factor : Operand → ℕ
-greatest_factor One = 1000000
-greatest_factor (Flag b) = 1000
-greatest_factor (Constant k) = 1000
-greatest_factor (Label owner code) = 1000
-greatest_factor (Variable v) = 1000
-greatest_factor (Primed v) = 1000
+greatest_factor One = NUMBER_LIMIT
+greatest_factor (Flag b) = FACTOR_LIMIT
+greatest_factor (Constant k) = FACTOR_LIMIT
+greatest_factor (Label owner code) = FACTOR_LIMIT
+greatest_factor (Variable v) = FACTOR_LIMIT
+greatest_factor (Primed v) = FACTOR_LIMIT
 
 abbrev pub is_factor_formed : Item → Bool
 is_factor_formed item = nat_le (unsigned_abs item.factor) (greatest_factor item.operand)
 
--- from 1 to 8 items
+-- at least one item, and no more than may be
 abbrev pub is_side_formed : Expr → Bool
-is_side_formed e = nat_le 1 (length e.items) && nat_le (length e.items) 8 && list_all is_factor_formed e.items
+is_side_formed e = nat_le 1 (length e.items) && nat_le (length e.items) ITEM_LIMIT && list_all is_factor_formed e.items
 
 -- the operand is no primed variable
 abbrev pub is_unprimed : Operand → Bool

@@ -1,8 +1,8 @@
 -- The names that a specification declares.
-use Rattle.std.specs.Prelude.{ℕ, Bool, false, ◌&&◌, nat_le, List, [], ◌∷◌, ◌++◌, length, is_none}
-use Rattle.std.specs.List.{list_all, flat_map}
-use Rattle.std.specs.Char.{is_ascii_alphabetic}
-use Rattle.scr_text.specs.Piece.{is_word_byte}
+pub use Rattle.scr_text.specs.Piece.{is_spelt}
+use Rattle.std.specs.Prelude.{ℕ, Bool, ◌&&◌, nat_le, List, [], ◌∷◌, ◌++◌, length, is_none}
+use Rattle.std.specs.List.{flat_map}
+use Rattle.scr_text.specs.declared.lex.TheConstants.{NAME_LIMIT}
 use Rattle.scr_text.specs.Words.{keyword_of}
 use Rattle.scr_spec.specs.declared.spec.TypeDef.{TypeDef}
 use Rattle.scr_spec.specs.declared.spec.Constant.{Constant}
@@ -10,14 +10,9 @@ use Rattle.scr_spec.specs.declared.spec.Variable.{Variable}
 use Rattle.scr_spec.specs.Data.{Data}
 use Rattle.scr_spec.specs.Types.{shape_labels, kind_modes}
 
--- a letter, then letters, digits and `_`
-abbrev pub is_spelt : List ℕ → Bool
-is_spelt [] = false
-is_spelt (b ∷ bytes) = is_ascii_alphabetic b && list_all is_word_byte bytes
-
--- from 1 to 24 characters, and no reserved word
+-- within the limit on names, and no reserved word
 abbrev pub is_name : List ℕ → Bool
-is_name bytes = is_spelt bytes && nat_le (length bytes) 24 && is_none (keyword_of bytes)
+is_name bytes = is_spelt bytes && nat_le (length bytes) NAME_LIMIT && is_none (keyword_of bytes)
 
 -- a type and its enumerators
 abbrev pub type_names : TypeDef → List (List ℕ)

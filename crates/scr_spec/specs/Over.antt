@@ -2,7 +2,9 @@
 use Rattle.std.specs.Prelude.{ℕ, ◌*◌, ℤ, pos, unsigned_abs, int_lt, int_le, Bool, true, ◌&&◌, nat_lt, nat_le, List, [], length, sum_by, slice_get}
 use Rattle.std.specs.Option.{option_map_or}
 use Rattle.std.specs.List.{list_all}
+use Rattle.scr_text.specs.declared.spelling.TheConstants.{NUMBER_LIMIT}
 use Rattle.scr_spec.specs.Data.{Data}
+use Rattle.scr_spec.specs.declared.limits.TheConstants.{SIDE_LIMIT}
 use Rattle.scr_spec.specs.declared.cond.Owner.{Owner}
 use Rattle.scr_spec.specs.declared.cond.Owner.TheVariants.{Named, Class}
 use Rattle.scr_spec.specs.declared.cond.Operand.{Operand}
@@ -59,13 +61,13 @@ is_operand_over spec (Label owner code) = is_place (labels_of spec owner) code
 is_operand_over spec (Read v) = nat_lt v (length spec.variables)
 is_operand_over spec (Primed v) = nat_lt v (length spec.variables)
 
--- its factor is from -1,000,000 to 1,000,000
+-- it is, and its factor is within the limit on numbers
 abbrev pub is_item_over : Data → Item → Bool
-is_item_over spec item = is_operand_over spec item.operand && nat_le (unsigned_abs item.factor) 1000000
+is_item_over spec item = is_operand_over spec item.operand && nat_le (unsigned_abs item.factor) NUMBER_LIMIT
 
--- its items are, and its bound is at most 2,000,000,000
+-- its items are, and its bound is within the limit
 abbrev pub is_side_over : Data → Expr → Bool
-is_side_over spec e = list_all (is_item_over spec) e.items && nat_le (side_bound spec e) 2000000000
+is_side_over spec e = list_all (is_item_over spec) e.items && nat_le (side_bound spec e) SIDE_LIMIT
 
 -- from the tests of the parts
 abbrev pub over_step : Data → Cond-F Bool → Bool

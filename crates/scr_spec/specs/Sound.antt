@@ -2,6 +2,7 @@
 use Rattle.std.specs.Prelude.{◌≡◌, ℕ, true, false, IsTrue, nat_eq, nat_le, length, map, Some, slice_get}
 use Rattle.std.specs.List.{list_all}
 use Rattle.std.specs.Str.{bytes_eq}
+use Rattle.scr_spec.specs.declared.limits.TheConstants.{CONSTANT_LIMIT, TYPE_LIMIT, VARIABLE_LIMIT}
 use Rattle.scr_spec.specs.declared.spec.Variable.{Variable}
 use Rattle.scr_spec.specs.Data.{Data}
 use Rattle.scr_spec.specs.Roles.{is_monitored_role}
@@ -24,7 +25,7 @@ IsEachTabled spec = (v : ℕ) (x : Variable) → slice_get spec.variables v ≡ 
 
 -- the names that a specification declares
 pub record IsNamed (spec : Data) : Type 0 where
-  -- each is a name of a text, from 1 to 24 characters and no reserved word, and so is that of the specification
+  -- each is a name of a text and no reserved word, and so is that of the specification
   pub title : IsTrue (is_name spec.name)
   pub names : IsTrue (list_all is_name (declared_names spec))
   -- each is declared once
@@ -32,10 +33,10 @@ pub record IsNamed (spec : Data) : Type 0 where
 
 -- its constants and variables
 pub record IsDeclared (spec : Data) : Type 0 where
-  -- at most 64 types and 256 constants
-  pub few_types : IsTrue (nat_le (length spec.types) 64)
-  pub few_constants : IsTrue (nat_le (length spec.constants) 256)
-  -- a constant is from -1,000,000 to 1,000,000
+  -- as many types and constants as may be
+  pub few_types : IsTrue (nat_le (length spec.types) TYPE_LIMIT)
+  pub few_constants : IsTrue (nat_le (length spec.constants) CONSTANT_LIMIT)
+  -- a constant is within the limit on numbers
   pub constants : IsTrue (list_all (λ c. is_narrow c.value) spec.constants)
   -- a list of modes is the kind of a mode class, and of no other variable
   pub roles : IsTrue (list_all (λ x. is_kind_of_role x.role x.kind) spec.variables)
@@ -71,11 +72,11 @@ pub record IsConditioned (spec : Data) : Type 0 where
   pub typed : IsTrue (list_all (conds_pass (is_cond_typed spec)) spec.tables)
   -- no name is primed
   pub unprimed : IsTrue (list_all (conds_pass (sides_pass is_side_plain)) spec.tables)
-  -- a side has from 1 to 8 items, and their factors are within the limits
+  -- a side has an item, and no more and no greater factors than may be
   pub sides : IsTrue (list_all (conds_pass (sides_pass is_side_formed)) spec.tables)
   -- AND and OR join at least two
   pub joined : IsTrue (list_all (conds_pass joins_several) spec.tables)
-  -- on each path at most 64 NOT, 65 AND and 65 OR
+  -- on each path there are no more NOT, AND and OR than may be
   pub shallow : IsTrue (list_all (conds_pass is_shallow) spec.tables)
 
 -- the rules on names, declarations, tables and conditions
@@ -86,13 +87,13 @@ pub record Rules (spec : Data) : Type 0 where
   pub conditioned : IsConditioned spec
 
 pub record IsSound (spec : Data) : Type 0 where
-  -- at most 128 variables
-  pub few : IsTrue (nat_le (length spec.variables) 128)
-  -- a type has from 1 to 64 enumerators, or from 1 to 8,192 integers from -1,000,000 to 1,000,000
+  -- as many variables as may be
+  pub few : IsTrue (nat_le (length spec.variables) VARIABLE_LIMIT)
+  -- a type has an enumerator or an integer, and no more and no greater ones than may be
   pub types : IsTrue (list_all is_type_sound spec.types)
-  -- the type of a variable is there, and a class has from 1 to 64 modes
+  -- the type of a variable is there, and a class has a mode, and no more than may be
   pub kinds : IsTrue (list_all (λ x. is_kind_sound spec.types x.kind) spec.variables)
-  -- a bound is from 1 to 1,000,000, at a monitored variable whose values are integers
+  -- a bound is at least 1 and within the limit on numbers, at a monitored variable whose values are integers
   pub bounds : IsTrue (list_all (is_bound_sound spec.types) spec.variables)
   -- all variables, constants and labels of tables are there, and sides, rows and cells are within the limits
   pub tables : IsTrue (list_all (is_table_over spec) spec.tables)

@@ -2,6 +2,7 @@
 use Rattle.std.specs.Prelude.{ℕ, Bool, true, false, ◌&&◌, nat_eq, nat_le, List, length, Option, is_some, is_none, slice_get, sum_by}
 use Rattle.std.specs.Option.{option_map_or}
 use Rattle.std.specs.List.{list_all, list_any}
+use Rattle.scr_spec.specs.declared.limits.TheConstants.{ROW_LIMIT}
 use Rattle.scr_spec.specs.declared.cond.Expr.{Expr}
 use Rattle.scr_spec.specs.declared.spec.Variable.{Variable}
 use Rattle.scr_spec.specs.declared.table.Cell.{Cell}
@@ -66,11 +67,11 @@ abbrev pub has_width : ℕ → Row → Bool
 has_width n row = nat_eq (length row.cells) n
 
 -- a condition or event table has a row, and as many values as each row has cells; a mode table has no values, and its
--- cells come from at most 64 lines
+-- cells come from no more lines than may be
 abbrev pub is_laid_out : Heading → List Row → List Expr → Bool
 is_laid_out Condition rows values = nat_le 1 (length rows) && list_all (has_width (length values)) rows
 is_laid_out Event rows values = nat_le 1 (length rows) && list_all (has_width (length values)) rows
-is_laid_out Modes rows values = nat_eq (length values) 0 && nat_le (sum_by (λ r. length r.cells) rows) 64
+is_laid_out Modes rows values = nat_eq (length values) 0 && nat_le (sum_by (λ r. length r.cells) rows) ROW_LIMIT
 
 abbrev pub is_layout_sound : Table → Bool
 is_layout_sound table = is_laid_out table.heading table.rows table.values

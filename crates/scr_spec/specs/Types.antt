@@ -1,7 +1,9 @@
 -- The rules on declared types, on the kinds of variables and on their bounds.
-use Rattle.std.specs.Prelude.{ℕ, ℤ, pos, ◌-ℤ◌, unsigned_abs, int_le, Bool, true, ◌&&◌, nat_lt, nat_le, List, [], length, is_some}
+use Rattle.std.specs.Prelude.{ℕ, ◌-◌, ℤ, pos, ◌-ℤ◌, unsigned_abs, int_le, Bool, true, ◌&&◌, nat_lt, nat_le, List, [], length, is_some}
 use Rattle.std.specs.Option.{option_map_or}
 use Rattle.dd_formula.specs.declared.domain.Domain.{Domain}
+use Rattle.scr_text.specs.declared.spelling.TheConstants.{NUMBER_LIMIT}
+use Rattle.scr_spec.specs.declared.limits.TheConstants.{LABEL_LIMIT, RANGE_LIMIT}
 use Rattle.scr_spec.specs.declared.spec.Shape.{Shape}
 use Rattle.scr_spec.specs.declared.spec.Shape.TheVariants.{Range, Labels}
 use Rattle.scr_spec.specs.declared.spec.TypeDef.{TypeDef}
@@ -11,17 +13,17 @@ use Rattle.scr_spec.specs.declared.spec.Variable.{Variable}
 use Rattle.scr_spec.specs.Roles.{is_monitored_role}
 use Rattle.scr_spec.specs.Sorts.{kind_range}
 
--- an integer of a specification is from -1,000,000 to 1,000,000
+-- an integer of a specification is within the limit on numbers
 abbrev pub is_narrow : ℤ → Bool
-is_narrow z = nat_le (unsigned_abs z) 1000000
+is_narrow z = nat_le (unsigned_abs z) NUMBER_LIMIT
 
--- from 1 to 8,192 integers
+-- at least one integer, and no more and no greater ones than may be
 abbrev pub is_range_sound : Domain → Bool
-is_range_sound d = is_narrow d.lo && is_narrow d.hi && int_le d.lo d.hi && int_le (d.hi -ℤ d.lo) (pos 8191)
+is_range_sound d = is_narrow d.lo && is_narrow d.hi && int_le d.lo d.hi && int_le (d.hi -ℤ d.lo) (pos (RANGE_LIMIT - 1))
 
--- from 1 to 64 names
+-- at least one name, and no more than may be
 abbrev pub is_list_sound : List (List ℕ) → Bool
-is_list_sound names = nat_le 1 (length names) && nat_le (length names) 64
+is_list_sound names = nat_le 1 (length names) && nat_le (length names) LABEL_LIMIT
 
 -- at least one value, and within the limits
 abbrev pub is_shape_sound : Shape → Bool
@@ -53,7 +55,7 @@ kind_modes (Modes names) = names
 abbrev pub is_integer_kind : List TypeDef → Kind → Bool
 is_integer_kind types kind = is_some (kind_range types kind)
 
--- a bound is from 1 to 1,000,000, at a monitored variable whose values are integers
+-- a bound is at least 1 and within the limit on numbers, at a monitored variable whose values are integers
 abbrev pub is_bound_sound : List TypeDef → Variable → Bool
 is_bound_sound types x =
     option_map_or (λ k. is_monitored_role x.role && is_integer_kind types x.kind && int_le (pos 1) k && is_narrow k) x.bound true

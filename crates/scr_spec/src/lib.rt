@@ -3,6 +3,7 @@
 
 mod cond;
 mod law;
+mod limits;
 mod numbers;
 mod sort;
 mod spec;
@@ -13,6 +14,10 @@ mod variables;
 pub use cond::{Cond, Expr, Item, Operand, Owner};
 pub use dd_formula::Domain;
 pub use law::bounded_depth;
+pub use limits::{
+    CELL_LIMIT, CONSTANT_LIMIT, FACTOR_LIMIT, ITEM_LIMIT, LABEL_LIMIT, NESTING_LIMIT, NOT_LIMIT,
+    RANGE_LIMIT, ROW_LIMIT, SIDE_LIMIT, TYPE_LIMIT, VARIABLE_LIMIT,
+};
 pub use numbers::{
     constant_value, kind_range, kind_sort, type_range, type_sort, variable_range, variable_sort,
 };
@@ -20,3 +25,4 @@ pub use sort::Sort;
 pub use spec::{Constant, Kind, Role, Shape, Spec, TypeDef, Variable};
 pub use state::{Input, State};
 pub use table::{Cell, Change, Event, Heading, Primitive, Row, Table};
+pub use variables::variable_name;

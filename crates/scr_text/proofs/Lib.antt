@@ -1,3 +1,4 @@
+pub mod Decimals
 pub mod Longest
 pub mod Cutting
 pub mod FirstLine

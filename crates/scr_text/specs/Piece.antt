@@ -7,6 +7,11 @@ use Rattle.std.specs.List.{list_all, prefix_len}
 abbrev pub is_word_byte : ℕ → Bool
 is_word_byte b = is_ascii_alphabetic b || is_ascii_digit b || b == 95
 
+-- a letter, then letters, digits and `_`
+abbrev pub is_spelt : List ℕ → Bool
+is_spelt [] = false
+is_spelt (b ∷ bytes) = is_ascii_alphabetic b && list_all is_word_byte bytes
+
 -- a space or a tab
 abbrev pub is_blank : ℕ → Bool
 is_blank b = b == 32 || b == 9

@@ -3,6 +3,8 @@ use Rattle.std.specs.Prelude.{◌≡◌, ℕ, ◌+◌, ◌<◌, ◌≤◌, ◌�
 use Rattle.std.specs.List.{list_all, take_while}
 use Rattle.scr_text.specs.declared.fault.LexFault.{LexFault}
 use Rattle.scr_text.specs.declared.fault.LexFault.TheVariants as f
+use Rattle.scr_text.specs.declared.lex.TheConstants.{LINE_LIMIT, NAME_LIMIT}
+use Rattle.scr_text.specs.declared.spelling.TheConstants.{NUMBER_LIMIT}
 use Rattle.scr_text.specs.declared.word.Word.{Word}
 use Rattle.scr_text.specs.declared.word.Word.TheVariants as w
 use Rattle.scr_text.specs.declared.word.Token.{Token}
@@ -24,11 +26,11 @@ body line = take_while (λ b. not (b == 35)) line
 abbrev pub is_allowed : ℕ → Bool
 is_allowed b = b == 9 || (nat_le 32 b && nat_le b 126)
 
--- a name has at most 24 characters, and a number is at most 1,000,000
+-- a name and a number are within their limits
 abbrev pub word_is_small : Word → Bool
-word_is_small (w.Name name) = nat_le (length name) 24
-word_is_small (w.Primed name) = nat_le (length name) 24
-word_is_small (w.Number n) = int_le n (pos 1000000)
+word_is_small (w.Name name) = nat_le (length name) NAME_LIMIT
+word_is_small (w.Primed name) = nat_le (length name) NAME_LIMIT
+word_is_small (w.Number n) = int_le n (pos NUMBER_LIMIT)
 word_is_small (w.Reserved keyword) = true
 word_is_small (w.Sign sign) = true
 
@@ -37,7 +39,7 @@ is_small token = word_is_small token.word
 
 -- the line is these tokens, and no limit is passed
 pub record IsLexed (line : List ℕ) (tokens : List Token) : Type 0 where
-  pub short : length line ≤ 4096
+  pub short : length line ≤ LINE_LIMIT
   pub allowed : list_all is_allowed (body line) ≡ true
   pub cut : Tokens 0 (body line) tokens
   pub small : list_all is_small tokens ≡ true
@@ -46,9 +48,9 @@ pub record IsLexed (line : List ℕ) (tokens : List Token) : Type 0 where
 -- a piece that is no token, a name or number too large
 abbrev pub Refuses : List ℕ → LexFault → Type 0
 Refuses line f.NoMemory = Unit {0}
-Refuses line f.Byte = (length line ≤ 4096) × (list_all is_allowed (body line) ≡ false)
-Refuses line f.Syntax = (length line ≤ 4096) × (list_all is_allowed (body line) ≡ true) × ((tokens : List Token) → Tokens 0 (body line) tokens → ⊥)
-Refuses line f.Limit = (4096 < length line) ⊎ ((list_all is_allowed (body line) ≡ true) × (tokens : List Token) × Tokens 0 (body line) tokens × (list_all is_small tokens ≡ false))
+Refuses line f.Byte = (length line ≤ LINE_LIMIT) × (list_all is_allowed (body line) ≡ false)
+Refuses line f.Syntax = (length line ≤ LINE_LIMIT) × (list_all is_allowed (body line) ≡ true) × ((tokens : List Token) → Tokens 0 (body line) tokens → ⊥)
+Refuses line f.Limit = (LINE_LIMIT < length line) ⊎ ((list_all is_allowed (body line) ≡ true) × (tokens : List Token) × Tokens 0 (body line) tokens × (list_all is_small tokens ≡ false))
 
 -- cutting alone has no other faults
 abbrev pub IsCutFault : LexFault → Type 0

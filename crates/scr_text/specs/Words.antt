@@ -1,13 +1,16 @@
 -- The word that a piece stands for.
-use Rattle.std.specs.Prelude.{ℕ, ◌+◌, ◌-◌, ◌*◌, min, pos, if◌then◌else◌, ◌==◌, List, [], ◌∷◌, length, take, slice_index, Option, Some, None, codes}
+use Rattle.std.specs.Prelude.{ℕ, ◌+◌, ◌-◌, ◌*◌, min, fold, pos, if◌then◌else◌, ◌==◌, List, [], ◌∷◌, length, take, slice_index, Option, Some, None, codes}
 use Rattle.std.specs.Char.{is_ascii_alphabetic, is_ascii_digit}
 use Rattle.std.specs.Str.{bytes_eq}
 use Rattle.std.specs.Map.{lookup}
 use Rattle.std.specs.Option.{option_or}
+use Rattle.scr_text.specs.declared.spelling.TheConstants.{NUMBER_LIMIT}
 use Rattle.scr_text.specs.declared.word.Word.{Word}
 use Rattle.scr_text.specs.declared.word.Word.TheVariants as w
 use Rattle.scr_text.specs.declared.word.Sign.{Sign}
 use Rattle.scr_text.specs.declared.word.Sign.TheVariants as s
+use Rattle.scr_text.specs.declared.word.Relation.{Relation}
+use Rattle.scr_text.specs.declared.word.Relation.TheVariants as r
 use Rattle.scr_text.specs.declared.word.Keyword.{Keyword}
 use Rattle.scr_text.specs.declared.word.Keyword.TheVariants as k
 
@@ -80,6 +83,15 @@ signs =
 abbrev pub sign_of : List ℕ → Option Sign
 sign_of bytes = lookup (bytes_eq bytes) signs
 
+-- the sign of a relation
+abbrev pub relation_sign : Relation → Sign
+relation_sign r.Equal = s.Equal
+relation_sign r.Differ = s.Differ
+relation_sign r.Less = s.Less
+relation_sign r.AtMost = s.AtMost
+relation_sign r.Greater = s.Greater
+relation_sign r.AtLeast = s.AtLeast
+
 -- a reserved word is no name
 abbrev pub named : List ℕ → Option Keyword → Word
 named bytes (Some keyword) = w.Reserved keyword
@@ -90,14 +102,13 @@ abbrev pub primed : List ℕ → Option Keyword → Option Word
 primed bytes (Some keyword) = None
 primed bytes None = Some (w.Primed bytes)
 
--- the number that these digits go on from `n`; above 1,000,000 it counts as 1,000,001
-abbrev pub number_from : ℕ → List ℕ → ℕ
-number_from n [] = n
-number_from n (b ∷ bytes) = number_from (min (10 * n + (b - 48)) 1000001) bytes
+-- the decimal number that these digits spell
+abbrev pub decimal_of : List ℕ → ℕ
+decimal_of digits = fold (λ n b. 10 * n + (b - 48)) 0 digits
 
--- the number that these digits spell
+-- the same; any number above the greatest of a line counts as the next one
 abbrev pub number_of : List ℕ → ℕ
-number_of bytes = number_from 0 bytes
+number_of digits = min (decimal_of digits) (NUMBER_LIMIT + 1)
 
 -- a sign as a word
 abbrev pub sign_word : Option Sign → Option Word

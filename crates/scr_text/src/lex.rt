@@ -7,17 +7,17 @@ ghost use Rattle.scr_text.specs.Piece.{is_blank};
 ghost use Rattle.scr_text.specs.Tokens as spec;
 
 use crate::LexFault;
-use crate::piece::{first_and_rest, piece_len};
+use crate::piece::piece_len;
 use crate::spelling::{NUMBER_LIMIT, word_of};
 use crate::word::{Token, Word};
 use sqlite_items::Items;
 use std::alloc::Global;
 
 /// The greatest length of a line, in bytes.
-const LINE_LIMIT: usize = 4096;
+pub const LINE_LIMIT: usize = 4096;
 
 /// The greatest length of a name, in characters.
-const NAME_LIMIT: usize = 24;
+pub const NAME_LIMIT: usize = 24;
 
 fn is_blank(b: u8) -> bool
     ensures { result ≡ is_blank b }
@@ -26,7 +26,7 @@ fn is_blank(b: u8) -> bool
 }
 
 fn tokens_of(alloc: Global, bytes: &[u8]) -> Result<Items<Token>, LexFault>
-    requires { length bytes.now ≤ 4096 }
+    requires { length bytes.now ≤ LINE_LIMIT }
     ensures found { IfOk result (λ tokens. spec.Tokens 0 bytes.now tokens) }
     ensures refused { result ≡ Err LexFault.Syntax
         → (tokens : List Token) → spec.Tokens 0 bytes.now tokens → ⊥ }
@@ -35,8 +35,8 @@ fn tokens_of(alloc: Global, bytes: &[u8]) -> Result<Items<Token>, LexFault>
     let mut tokens = Items::new(alloc);
     let mut here = bytes;
     let mut at: u32 = 0;
-    'pieces: while let Some((first, rest)) = first_and_rest(here) {
-        if is_blank(first) {
+    'pieces: while let Some((first, rest)) = here.split_first() {
+        if is_blank(*first) {
             here = rest;
             at += 1;
         } else {

@@ -2,7 +2,7 @@
 #![tactic(auto)]
 
 mod fault;
-mod laws;
+mod law;
 mod lex;
 mod line;
 mod memory;
@@ -13,11 +13,11 @@ mod spelling;
 mod word;
 
 pub use fault::LexFault;
-pub use laws::{lines_in_turn, one_lexing};
-pub use lex::lex_line;
+pub use law::{lines_in_turn, one_lexing};
+pub use lex::{LINE_LIMIT, NAME_LIMIT, lex_line};
 pub use line::{Cut, cut_line, next_line};
 pub use memory::NoMemory;
 pub use name::Name;
 pub use number::push_number;
-pub use spelling::{keyword_of, number_of};
+pub use spelling::{NUMBER_LIMIT, keyword_of, number_of};
 pub use word::{Keyword, Relation, Sign, Token, Word};

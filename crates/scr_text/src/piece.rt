@@ -1,6 +1,6 @@
 //! Cuts the longest piece in front.
 
-ghost use Rattle.std.specs.Prelude.{◌≡◌, ◌≤◌, ◌<◌, [], ◌∷◌, length, MatchOption, IsTrue};
+ghost use Rattle.std.specs.Prelude.{◌≡◌, ◌≤◌, ◌<◌, length, IsTrue};
 ghost use Rattle.std.specs.Char.{is_ascii_digit};
 ghost use Rattle.std.specs.List.{prefix_len};
 ghost use Rattle.scr_text.specs.Piece as spec;
@@ -38,10 +38,7 @@ fn starts(bytes: &[u8], byte: u8) -> bool
     ensures value { result ≡ spec.starts byte bytes.now }
     ensures some { IsTrue result → 0 < length bytes.now }
 {
-    match first_and_rest(bytes) {
-        Some((first, _)) => first == byte,
-        None => false,
-    }
+    bytes.first() == Some(&byte)
 }
 
 #[tactic(auto, using(crate::proofs::Longest::name_run))]
@@ -54,24 +51,15 @@ fn name_rest_len(bytes: &[u8]) -> usize
     if starts(rest, b'\'') { n + 1 } else { n }
 }
 
-/// The first byte, and the bytes behind it.
-pub(crate) fn first_and_rest(bytes: &[u8]) -> Option<(u8, &[u8])>
-    ensures { MatchOption result (bytes.now ≡ []) (λ x. bytes.now ≡ x.0 ∷ x.1.now) }
-{
-    match bytes.split_first() {
-        Some((b, rest)) => Some((*b, rest)),
-        None => None,
-    }
-}
-
 #[tactic(auto, unfolding(crate::specs::Piece::piece_len))]
 fn front_len(bytes: &[u8]) -> usize
     ensures value { result ≡ spec.piece_len bytes.now }
     ensures within { result ≤ length bytes.now }
 {
-    match first_and_rest(bytes) {
+    match bytes.split_first() {
         None => 0,
         Some((b, rest)) => {
+            let b = *b;
             if b.is_ascii_alphabetic() {
                 1 + name_rest_len(rest)
             } else if b.is_ascii_digit() {

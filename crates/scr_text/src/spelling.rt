@@ -1,6 +1,6 @@
 //! The word that a piece stands for.
 
-ghost use Rattle.std.specs.Prelude.{◌≡◌, ◌<◌, ◌≤◌, length, pos, IfOk};
+ghost use Rattle.std.specs.Prelude.{◌≡◌, ◌+◌, ◌<◌, ◌≤◌, length, pos, IfOk};
 ghost use Rattle.std.specs.Map.{lookup};
 ghost use Rattle.std.specs.Str.{bytes_eq};
 ghost use Rattle.scr_text.specs.Words as spec;
@@ -10,7 +10,7 @@ use crate::{Name, NoMemory};
 use std::alloc::Global;
 
 /// The greatest number of a line.
-pub(crate) const NUMBER_LIMIT: u32 = 1_000_000;
+pub const NUMBER_LIMIT: u32 = 1_000_000;
 
 #[tactic(auto, unfolding(crate::specs::Words::declaration_words))]
 fn declaration_word(bytes: &[u8]) -> Option<Keyword>
@@ -130,7 +130,7 @@ fn sign_of(bytes: &[u8]) -> Option<Sign>
 /// The number that these digits spell. Any number above 1,000,000 is told as 1,000,001.
 pub fn number_of(bytes: &[u8]) -> u32
     ensures value { result ≡ spec.number_of bytes.now }
-    ensures capped { result ≤ 1000001 }
+    ensures capped { result ≤ NUMBER_LIMIT + 1 }
 {
     let mut n: u32 = 0;
     for b in bytes {

@@ -13,6 +13,25 @@ pub enum Relation {
     AtLeast,
 }
 
+impl Relation {
+    ghost use Rattle.std.specs.Prelude.{◌≡◌};
+    ghost use Rattle.scr_text.specs.Words.{relation_sign};
+
+    /// The sign that spells it.
+    pub fn sign(self) -> Sign
+        ensures { result ≡ relation_sign self }
+    {
+        match self {
+            Relation::Equal => Sign::Equal,
+            Relation::Differ => Sign::Differ,
+            Relation::Less => Sign::Less,
+            Relation::AtMost => Sign::AtMost,
+            Relation::Greater => Sign::Greater,
+            Relation::AtLeast => Sign::AtLeast,
+        }
+    }
+}
+
 /// The reserved words, in the order in which the language lists them. `TypeWord` is `TYPE`.
 #[derive(Clone, Copy, Debug, PartialEq, Eq)]
 pub enum Keyword {

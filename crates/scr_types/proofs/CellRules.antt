@@ -32,7 +32,7 @@ use Rattle.scr_types.specs.Built.{mode_code, joined, cells_with, row_with, row_o
 use Rattle.scr_types.proofs.Grown.{push_all}
 use Rattle.scr_types.proofs.Transitions.{cells_all, rows_all}
 use Rattle.scr_types.proofs.TableRules.{TableRule}
-use Rattle.scr_types.proofs.Told.{row_spelt, transition_tests}
+use Rattle.scr_types.proofs.Tested.{row_spelt, transition_tests}
 
 -- ---- cells
 

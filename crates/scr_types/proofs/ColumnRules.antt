@@ -32,7 +32,7 @@ use Rattle.scr_types.proofs.Transitions.{cell_count, rows_more}
 use Rattle.scr_types.proofs.CountsKept.{few_rows}
 use Rattle.scr_types.proofs.Opened.{IsOpenAt, apart}
 use Rattle.scr_types.proofs.TableRules.{TableRule}
-use Rattle.scr_types.proofs.Told.{right}
+use Rattle.scr_types.proofs.Tested.{right}
 
 -- the values stand
 abbrev is_closed : Place → Bool

@@ -38,7 +38,7 @@ complete_under known h.Modes class rows h = refl
 
 -- ---- the rule
 
--- nothing is told before END
+-- nothing is named before END
 abbrev pub Untold : Place → Counts → Data → Table → Type 0
 Untold place counts spec t = Unit {0}
 

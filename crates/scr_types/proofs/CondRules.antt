@@ -25,7 +25,7 @@ use Rattle.scr_types.proofs.Grown.{push_all}
 use Rattle.scr_types.proofs.Transitions.{cells_all, rows_all}
 use Rattle.scr_types.proofs.Opened.{core}
 use Rattle.scr_types.proofs.TableRules.{TableRule}
-use Rattle.scr_types.proofs.Told.{AllTested, no_cell, cell_more, row_tests, transition_tests}
+use Rattle.scr_types.proofs.Tested.{AllTested, no_cell, cell_more, row_tests, transition_tests}
 
 -- each condition of the table passes, from the first line on
 abbrev pub Passing : (Data → Cond → Bool) → Place → Counts → Data → Table → Type 0

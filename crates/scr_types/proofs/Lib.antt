@@ -5,6 +5,7 @@ pub mod CompleteRule
 pub mod CondRules
 pub mod CountsKept
 pub mod CurrentTable
+pub mod Grouped
 pub mod Grown
 pub mod HeadRules
 pub mod Heads
@@ -26,7 +27,7 @@ pub mod Steps
 pub mod TableRules
 pub mod TabledKept
 pub mod TargetsRule
-pub mod Told
+pub mod Tested
 pub mod Transitions
 pub mod Truths
 pub mod TypesKept

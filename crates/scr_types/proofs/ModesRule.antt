@@ -36,7 +36,7 @@ use Rattle.scr_types.proofs.ModesKept.{there_is, code_in, code_is, place_is, row
 use Rattle.scr_types.proofs.Opened.{core}
 use Rattle.scr_types.proofs.CurrentTable.{class_now, rows_now, row_placed, no_bad, is_change}
 use Rattle.scr_types.proofs.TableRules.{TableRule}
-use Rattle.scr_types.proofs.Told.{right}
+use Rattle.scr_types.proofs.Tested.{right}
 
 -- ---- codes of the class
 

@@ -56,7 +56,7 @@ use Rattle.scr_types.proofs.CountsKept.{few_rows}
 use Rattle.scr_types.proofs.VariablesKept.{is_kept, kept_parts, VariablesKept}
 use Rattle.scr_types.proofs.Opened.{core, Here}
 use Rattle.scr_types.proofs.TableRules.{TableRule}
-use Rattle.scr_types.proofs.Told.{AllTested, no_cell, cell_more, right, row_tests, transition_tests}
+use Rattle.scr_types.proofs.Tested.{AllTested, no_cell, cell_more, right, row_tests, transition_tests}
 use Rattle.scr_types.proofs.ColumnRules.{modes_apart}
 
 -- ---- modes

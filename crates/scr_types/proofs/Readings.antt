@@ -3,7 +3,6 @@ use Rattle.std.proofs.Common.{◌≡◌, ℕ, List, [], ◌∷◌, Option, Some,
 use Rattle.scr_spec.specs.Data.{Data}
 use Rattle.scr_spec.specs.Sound.{IsSound}
 use Rattle.scr_reader.specs.declared.draft.Numbered.{Numbered}
-use Rattle.scr_reader.specs.declared.place.TextKind.{TextKind}
 use Rattle.scr_reader.specs.Text.{TextReads}
 use Rattle.scr_reader.proofs.Outcome.{one_outcome}
 use Rattle.scr_reader.proofs.ReadableTexts.{reads_readable}

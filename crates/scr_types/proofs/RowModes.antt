@@ -26,7 +26,7 @@ same_code a b e = (Decides-int_eq a b).0 e
 pub code_same : (a b : ℤ) → a ≡ b → int_eq a b ≡ true
 code_same a b e = (Decides-int_eq a b).1 e
 
-other_code : (a b : ℤ) → int_eq a b ≡ false → int_eq b a ≡ false
+pub other_code : (a b : ℤ) → int_eq a b ≡ false → int_eq b a ≡ false
 other_code a b e = by (int_eq b a) refl
   where
     by : (t : Bool) → int_eq b a ≡ t → t ≡ false

@@ -21,7 +21,7 @@ use Rattle.scr_names.specs.Sides.{is_typed_value, is_value_within, side_of}
 use Rattle.scr_types.specs.Lines.{are_values_typed, are_values_within}
 use Rattle.scr_types.proofs.Opened.{core}
 use Rattle.scr_types.proofs.TableRules.{TableRule}
-use Rattle.scr_types.proofs.Told.{right}
+use Rattle.scr_types.proofs.Tested.{right}
 
 values_made : (known : Known) (heading : Heading) (v : ℕ) (sides : List DraftSide) → has_values heading ≡ true → list_all (is_side_spelt true) sides ≡ true → list_all is_side_within sides ≡ true
     → list_all (is_typed_value known heading v) sides ≡ true → list_all (is_value_within known v) sides ≡ true → list_all (is_value_sound (core known) heading v) (map (side_of known) sides) ≡ true

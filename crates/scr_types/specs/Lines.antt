@@ -2,6 +2,7 @@
 use Rattle.std.specs.Prelude.{Bool, true, ◌&&◌, nat_le, List, length, Option, Some, None}
 use Rattle.std.specs.Option.{option_or, option_map, option_map_or}
 use Rattle.std.specs.List.{list_all}
+use Rattle.scr_spec.specs.declared.limits.TheConstants.{ITEM_LIMIT}
 use Rattle.scr_reader.specs.declared.draft.DraftEvent.{DraftEvent}
 use Rattle.scr_reader.specs.declared.draft.DraftSide.{DraftSide}
 use Rattle.scr_reader.specs.declared.draft.Statement.{Statement}
@@ -15,7 +16,7 @@ use Rattle.scr_names.specs.Sides.{unknown_side, is_typed_value, is_value_within,
 use Rattle.scr_names.specs.Events.{unknown_event, unknown_cell, is_typed_event, is_typed_cell, is_narrow_event, is_narrow_cell}
 use Rattle.scr_types.specs.declared.fault.TypeKind.{TypeKind}
 use Rattle.scr_types.specs.declared.fault.TypeKind.TheVariants as k
-use Rattle.scr_types.specs.Tables.{is_head_new, ill_head, is_head_placed, told, bad_mode, bad_transition, missing_mode, is_row_placed, are_values_placed, first_bare}
+use Rattle.scr_types.specs.Tables.{is_head_new, ill_head, is_head_placed, variable_unless, bad_mode, bad_transition, missing_mode, is_row_placed, are_values_placed, first_bare}
 use Rattle.scr_types.specs.Built.{with_head, with_row, with_values, with_transition, with_end}
 
 -- ---- duplicate: a name is declared twice, or a variable has two tables or two bounds
@@ -48,9 +49,9 @@ are_values_typed known sides = option_map_or (λ t. list_all (is_typed_value kno
 
 abbrev pub ill_in : Known → Statement → Option Name
 ill_in known (s.Head heading n class) = ill_head known heading n class
-ill_in known (s.Row modes cells) = told known (list_all (is_typed_cell known) cells)
-ill_in known (s.Values sides) = told known (are_values_typed known sides)
-ill_in known (s.Transition source target e) = told known (is_typed_event known e)
+ill_in known (s.Row modes cells) = variable_unless known (list_all (is_typed_cell known) cells)
+ill_in known (s.Values sides) = variable_unless known (are_values_typed known sides)
+ill_in known (s.Transition source target e) = variable_unless known (is_typed_event known e)
 ill_in known line = ill_declaration known line
 
 -- ---- range: a number is outside the values of a type
@@ -59,19 +60,19 @@ abbrev pub are_values_within : Known → List DraftSide → Bool
 are_values_within known sides = option_map_or (λ t. list_all (is_value_within known t.variable) sides) known.current true
 
 abbrev pub outside_in : Known → Statement → Option Name
-outside_in known (s.Values sides) = told known (are_values_within known sides)
+outside_in known (s.Values sides) = variable_unless known (are_values_within known sides)
 outside_in known line = outside_declaration known line
 
--- what the limits on a text give: a value has at most 8 items, with factors from -1,000,000 to 1,000,000
+-- what the limits on a text give: a value has no more items, and no greater factors, than may be
 abbrev pub is_small_side : DraftSide → Bool
-is_small_side side = nat_le (length side.items) 8 && list_all is_narrow_item side.items
+is_small_side side = nat_le (length side.items) ITEM_LIMIT && list_all is_narrow_item side.items
 
--- ---- wide: the bound of a side is above 2,000,000,000
+-- ---- wide: the bound of a side is above its limit
 
 abbrev pub wide_in : Known → Statement → Option Name
-wide_in known (s.Row modes cells) = told known (list_all (is_narrow_cell known) cells)
-wide_in known (s.Values sides) = told known (list_all (is_narrow_side known) sides)
-wide_in known (s.Transition source target e) = told known (is_narrow_event known e)
+wide_in known (s.Row modes cells) = variable_unless known (list_all (is_narrow_cell known) cells)
+wide_in known (s.Values sides) = variable_unless known (list_all (is_narrow_side known) sides)
+wide_in known (s.Transition source target e) = variable_unless known (is_narrow_event known e)
 wide_in known line = None
 
 -- ---- mode: a name is no mode of the table's class, a mode comes twice or is missing
@@ -86,8 +87,8 @@ mode_in known line = None
 
 abbrev pub table_in : Known → Statement → Option Name
 table_in known (s.Head heading n class) = unless (is_head_placed known heading n) n
-table_in known (s.Row modes cells) = told known (is_row_placed known modes cells)
-table_in known (s.Values sides) = told known (are_values_placed known sides)
+table_in known (s.Row modes cells) = variable_unless known (is_row_placed known modes cells)
+table_in known (s.Values sides) = variable_unless known (are_values_placed known sides)
 table_in known s.Finish = first_bare known.tables 0 known.variables
 table_in known line = None
 

@@ -69,8 +69,8 @@ abbrev pub current_variable : Known → Option Variable
 current_variable known = option_and_then (λ t. slice_get known.variables t.variable) known.current
 
 -- the name of its variable, unless that is right
-abbrev pub told : Known → Bool → Option Name
-told known right = if right then None else option_map (λ x. x.name) (current_variable known)
+abbrev pub variable_unless : Known → Bool → Option Name
+variable_unless known right = if right then None else option_map (λ x. x.name) (current_variable known)
 
 abbrev pub current_class : Known → Option ℕ
 current_class known = option_and_then (λ t. t.class) known.current

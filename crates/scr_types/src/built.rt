@@ -6,7 +6,7 @@ ghost use Rattle.scr_names.specs.Meanings.{variable_named};
 ghost use Rattle.scr_names.specs.Sides as side;
 ghost use Rattle.scr_types.specs.Built as spec;
 
-use crate::mode::{current_class, has_code, has_mode, mode_named};
+use crate::mode::{current_class, has_mode, mode_named};
 use scr_names::Known;
 use scr_reader::{DraftCell, DraftEvent, DraftSide};
 use scr_spec::{Cell, Event, Expr, Heading, Primitive, Row, Table};
@@ -212,7 +212,7 @@ fn targets_with(targets: Items<i64>, target: i64) -> Result<Items<i64>, NoMemory
     ensures { IfOk result (λ made. made ≡ spec.targets_with target targets) }
 {
     let mut targets = targets;
-    if !has_code(targets.as_slice(), target) {
+    if !targets.as_slice().contains(&target) {
         targets.push(target)?;
     }
     Ok(targets)

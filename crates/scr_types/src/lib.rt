@@ -4,12 +4,12 @@
 mod built;
 mod fault;
 mod head;
+mod law;
 mod line;
 mod lines;
 mod mode;
-mod reading;
 mod shape;
 
 pub use fault::{TypeFault, TypeKind};
+pub use law::{one_reading, rows_are_grouped, spelled_is_sound};
 pub use lines::{one_resolution, resolve};
-pub use reading::{one_reading, spelled_is_sound};

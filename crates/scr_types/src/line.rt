@@ -16,7 +16,7 @@ use crate::head::{ill_head, is_head_new, is_head_placed};
 use crate::mode::{bad_mode, bad_transition, missing_mode};
 use crate::shape::{
     are_narrow, are_values_placed, are_values_typed, are_values_within, first_bare, is_row_placed,
-    told,
+    variable_unless,
 };
 use scr_names::{Known, unless};
 use scr_reader::{DraftCell, DraftEvent, DraftSide, Numbered, Statement};
@@ -122,9 +122,12 @@ fn ill_in<'a>(known: &'a Known, statement: &'a Statement) -> Option<&'a Name>
 {
     match statement {
         Statement::Head(heading, name, class) => ill_head(known, *heading, name, class),
-        Statement::Row(_, cells) => told(known, are_typed(known, cells.as_slice())),
-        Statement::Values(sides) => told(known, are_values_typed(known, sides.as_slice())),
-        Statement::Transition(_, _, event) => told(known, known.is_typed_event(event)),
+        Statement::Row(_, cells) => variable_unless(known, are_typed(known, cells.as_slice())),
+        Statement::Values(sides) => variable_unless(
+            known,
+            are_values_typed(known, sides.as_slice()),
+        ),
+        Statement::Transition(_, _, event) => variable_unless(known, known.is_typed_event(event)),
         _ => known.ill_declaration(statement),
     }
 }
@@ -136,7 +139,10 @@ fn outside_in<'a>(known: &'a Known, statement: &'a Statement) -> Option<&'a Name
     ensures { option_copied result ≡ spec.outside_in known.now statement.now }
 {
     match statement {
-        Statement::Values(sides) => told(known, are_values_within(known, sides.as_slice())),
+        Statement::Values(sides) => variable_unless(
+            known,
+            are_values_within(known, sides.as_slice()),
+        ),
         _ => known.outside_declaration(statement),
     }
 }
@@ -151,9 +157,12 @@ fn wide_in<'a>(known: &'a Known, statement: &'a Statement) -> Option<&'a Name>
     ensures { option_copied result ≡ spec.wide_in known.now statement.now }
 {
     match statement {
-        Statement::Row(_, cells) => told(known, are_cells_narrow(known, cells.as_slice())),
-        Statement::Values(sides) => told(known, are_narrow(known, sides.as_slice())),
-        Statement::Transition(_, _, event) => told(known, known.is_narrow_event(event)),
+        Statement::Row(_, cells) => variable_unless(
+            known,
+            are_cells_narrow(known, cells.as_slice()),
+        ),
+        Statement::Values(sides) => variable_unless(known, are_narrow(known, sides.as_slice())),
+        Statement::Transition(_, _, event) => variable_unless(known, known.is_narrow_event(event)),
         _ => None,
     }
 }
@@ -176,9 +185,12 @@ fn table_in<'a>(known: &'a Known, statement: &'a Statement) -> Option<&'a Name>
         Statement::Head(heading, name, _) => unless(is_head_placed(known, *heading, name), name),
         Statement::Row(modes, cells) => {
             let right = is_row_placed(known, modes.as_slice(), cells.as_slice());
-            told(known, right)
+            variable_unless(known, right)
         }
-        Statement::Values(sides) => told(known, are_values_placed(known, sides.as_slice())),
+        Statement::Values(sides) => variable_unless(
+            known,
+            are_values_placed(known, sides.as_slice()),
+        ),
         Statement::Finish => first_bare(known.tables.as_slice(), known.variables.as_slice()),
         _ => None,
     }

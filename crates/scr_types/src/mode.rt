@@ -1,8 +1,6 @@
 //! The modes of the rows of a table.
-ghost use Rattle.std.specs.Prelude.{◌≡◌, false, [], pos};
+ghost use Rattle.std.specs.Prelude.{◌≡◌, false, []};
 ghost use Rattle.std.specs.Option.{option_copied};
-ghost use Rattle.std.specs.Ordering.{int_eq};
-ghost use Rattle.std.specs.List.{list_any};
 ghost use Rattle.scr_spec.specs.Over.{modes_of};
 ghost use Rattle.scr_names.specs.Meanings.{seen};
 ghost use Rattle.scr_types.specs.Tables as spec;
@@ -37,18 +35,11 @@ pub(crate) fn mode_named(known: &Known, v: usize, name: &Name) -> Option<u32>
     mode_meant(v, known.names.get(name)?)
 }
 
-/// Whether the code is among the codes.
-pub(crate) fn has_code(codes: &[i64], code: i64) -> bool
-    ensures { result ≡ list_any (int_eq code) codes.now }
-{
-    codes.iter().any(|other| code == *other)
-}
-
 /// Whether the row has the mode.
 pub(crate) fn has_mode(mode: i64, row: &Row) -> bool
     ensures { result ≡ spec.has_mode mode row.now }
 {
-    has_code(row.modes.as_slice(), mode)
+    row.modes.as_slice().contains(&mode)
 }
 
 fn is_used(rows: &[Row], mode: i64) -> bool

@@ -13,8 +13,8 @@ use scr_spec::{Heading, Row, Table, Variable};
 use scr_text::Name;
 
 /// The name of the table's variable, unless that is right.
-pub(crate) fn told(known: &Known, right: bool) -> Option<&Name>
-    ensures { option_copied result ≡ spec.told known.now right }
+pub(crate) fn variable_unless(known: &Known, right: bool) -> Option<&Name>
+    ensures { option_copied result ≡ spec.variable_unless known.now right }
 {
     if right {
         return None;
@@ -113,7 +113,7 @@ pub(crate) fn are_values_within(known: &Known, sides: &[DraftSide]) -> bool
     }
 }
 
-/// Whether the bound of each side is at most 2,000,000,000.
+/// Whether the bound of each side is at most `SIDE_LIMIT`.
 pub(crate) fn are_narrow(known: &Known, sides: &[DraftSide]) -> bool
     ensures { result ≡ list_all (side.is_narrow_side known.now) sides.now }
 {

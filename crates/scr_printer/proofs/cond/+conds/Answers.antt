@@ -1,10 +1,11 @@
 use Rattle.std.proofs.Common.{◌≡◌, ◌∙◌, [], ◌∷◌, ◌++◌, refl, ap}
 use Rattle.scr_text.specs.declared.word.Word.TheVariants as w
 use Rattle.scr_text.specs.declared.word.Keyword.TheVariants as k
+use Rattle.scr_text.specs.Words.{relation_sign}
 use Rattle.scr_spec.specs.Shown.{data_of}
 use Rattle.scr_printer.specs.Pages.{put, written}
 use Rattle.scr_printer.specs.Sides.{side_words}
-use Rattle.scr_printer.specs.Conds.{relation_sign, between, is_apart_in_and, is_apart_in_or, in_and, in_or, phrase_of}
+use Rattle.scr_printer.specs.Conds.{between, is_apart_in_and, is_apart_in_or, in_and, in_or, phrase_of}
 use Rattle.scr_printer.proofs.Written.{onward, one_behind, joined_step, no_first}
 use Rattle.scr_printer.proofs.Phrases.{compared_words, not_words, and_words, or_words, member_words}
 use Rattle.scr_printer.proofs.cond.+conds.Goals as goal
@@ -12,7 +13,7 @@ use Rattle.scr_printer.proofs.cond.+conds.Goals as goal
 pub put_cond-returns-in_ok-put_sign-in-Compare : goal.put_cond-returns-in_ok-put_sign-in-Compare
 put_cond-returns-in_ok-put_sign-in-Compare t c =
     let sign : c.put_sign.new.self ≡ put c.put_side.new.line (w.Sign (relation_sign c.in-Compare.relation)) =
-    c.in_ok-put_sign-in-Compare.ensures ∙ ap (λ sign. put c.put_side.new.line (w.Sign sign)) c.relation_sign.ensures in
+    c.in_ok-put_sign-in-Compare.ensures ∙ ap (λ sign. put c.put_side.new.line (w.Sign sign)) c.sign.ensures in
     onward _ _ _ _ (side_words (data_of c.args.spec.now) c.in-Compare.left ++ w.Sign (relation_sign c.in-Compare.relation) ∷ []) _ _ c.put_side-in-Compare.ensures
     (one_behind c.args.line.now c.put_side.new.line c.put_sign.new.self (side_words (data_of c.args.spec.now) c.in-Compare.left) (w.Sign (relation_sign c.in-Compare.relation))
     c.in_ok-put_side-in-Compare.ensures sign)

@@ -1,5 +1,5 @@
 use Rattle.std.proofs.Common.{arith, ◌≡◌, true, false, [], ◌∷◌, length, take, drop, Some, None, sym, ap, ◌∙◌, append_assoc}
-use Rattle.std.proofs.lemmas.List.{append-nil}
+use Rattle.std.proofs.lemmas.List.{append-nil, nil_from_length}
 use Rattle.scr_text.specs.Piece.{is_blank, IsLongest, NoPiece}
 use Rattle.scr_text.specs.Tokens.{no_more, blank, piece}
 use Rattle.scr_text.specs.Words.{word_of}
@@ -8,9 +8,9 @@ use Rattle.scr_text.proofs.lex.tokens_of.Goals as goal
 
 pub pieces-preserved-then-is_blank : goal.pieces-preserved-then-is_blank
 pieces-preserved-then-is_blank c =
-    let front : c.pieces.here.now ≡ c.in-Some.first ∷ c.in-Some.rest.now = c.in-Some.ensures in
-    let first : is_blank c.in-Some.first ≡ true = sym c.if-is_blank.ensures in
-    let longer : length c.pieces.here.now ≡ length (c.in-Some.first ∷ c.in-Some.rest.now) = ap length front in
+    let front : c.pieces.here.now ≡ c.in-Some.first.now ∷ c.in-Some.rest.now = c.in-Some.ensures.cases.0 in
+    let first : is_blank c.in-Some.first.now ≡ true = sym c.if-is_blank.ensures in
+    let longer : length c.pieces.here.now ≡ length (c.in-Some.first.now ∷ c.in-Some.rest.now) = ap length front in
     record {
       onward = λ more d. c.pieces.invariant.onward more (tokens_at front (blank first d));
       back = λ all d. let here = c.pieces.invariant.back all d in after_blank first (tokens_at (sym front) here.1);
@@ -19,8 +19,8 @@ pieces-preserved-then-is_blank c =
 
 pub returns-then-len-eq0-clause-refused : goal.returns-then-len-eq0-clause-refused
 returns-then-len-eq0-clause-refused c never all d =
-    let front : c.pieces.here.now ≡ c.in-Some.first ∷ c.in-Some.rest.now = c.in-Some.ensures in
-    let first : is_blank c.in-Some.first ≡ false = sym c.if-is_blank.ensures in
+    let front : c.pieces.here.now ≡ c.in-Some.first.now ∷ c.in-Some.rest.now = c.in-Some.ensures.cases.0 in
+    let first : is_blank c.in-Some.first.now ≡ false = sym c.if-is_blank.ensures in
     let none : NoPiece c.pieces.here.now = c.piece_len-len.ensures.longest.none c.if-len-eq0.true in
     let here = c.pieces.invariant.back all d in
     no_piece (rw front at none) first (tokens_at (sym front) here.1)
@@ -45,5 +45,5 @@ pieces-preserved c =
 
 pub returns-clause-found : goal.returns-clause-found
 returns-clause-found c =
-    let empty : c.pieces.here.now ≡ [] = c.in_default.ensures in
+    let empty : c.pieces.here.now ≡ [] = nil_from_length c.pieces.here.now c.in_default.ensures.cases in
     rw (← append-nil c.pieces.tokens) (c.pieces.invariant.onward [] (tokens_at empty no_more))

@@ -21,7 +21,7 @@ use Rattle.scr_names.proofs.KeptForms.{some_all}
 use Rattle.scr_names.specs.declared.known.Known.{Known}
 use Rattle.scr_names.specs.Names.{Name}
 use Rattle.scr_names.specs.Events.{is_typed_event, is_typed_cell, is_narrow_event, is_narrow_cell}
-use Rattle.scr_types.specs.Tables.{told}
+use Rattle.scr_types.specs.Tables.{variable_unless}
 use Rattle.scr_types.proofs.Opened.{Here}
 use Rattle.scr_types.proofs.TableRules.{At}
 
@@ -30,8 +30,8 @@ told_by o test true h e = refl
 told_by None test false h e = absurd (cc)
 told_by (Some x) test false h e = absurd (cc)
 
--- the table's variable is there, so it is told wherever something is wrong
-pub right : (place : Place) (known : Known) (t : Table) → Here place known t → (b : Bool) → told known b ≡ None → b ≡ true
+-- the table's variable is there, so it is named wherever something is wrong
+pub right : (place : Place) (known : Known) (t : Table) → Here place known t → (b : Bool) → variable_unless known b ≡ None → b ≡ true
 right place known t here b e =
     told_by (slice_get known.variables t.variable) (is_headed t.heading) b here.head
     (sym (ap (λ o. if b then None else option_map (λ (x : Variable). x.name) (option_and_then (λ (u : Table). slice_get known.variables u.variable) o)) here.is) ∙ e)
