@@ -27,7 +27,7 @@ use Rattle.scr_depend.specs.declared.order.Order.{Order}
 use Rattle.scr_depend.specs.Meets.{MeetsChecks}
 use Rattle.scr_next.specs.Runs.{IsConsistent, IsStep}
 use Rattle.scr_next.specs.Given.{Gives, GivesOrKeeps}
-use Rattle.scr_next.specs.Laws.{PassesChecks}
+use Rattle.scr_depend.specs.Passes.{PassesChecks}
 use Rattle.scr_next.proofs.Cells.{IsJudged, none_holds, none_gives, relation_gives, code_once}
 use Rattle.scr_next.proofs.Apart.{rows_apart}
 use Rattle.scr_next.proofs.Order.{placed, not_both, one_of, dependent_within, table_variable, tabled, checked}

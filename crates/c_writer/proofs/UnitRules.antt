@@ -15,7 +15,7 @@ use Rattle.scr_spec.specs.Sound.{IsSound}
 use Rattle.scr_spec.proofs.Narrow.{variable_narrow}
 use Rattle.scr_depend.proofs.Count.{count_below, count_below_all, without, without_other, count_without}
 use Rattle.scr_depend.specs.declared.order.Order.{Order}
-use Rattle.scr_next.specs.Laws.{PassesChecks}
+use Rattle.scr_depend.specs.Passes.{PassesChecks}
 use Rattle.scr_next.proofs.Order.{dependent_within}
 use Rattle.c_subset.specs.declared.unit.CFunction.{CFunction}
 use Rattle.c_subset.specs.declared.unit.CItem.TheVariants.{Function}

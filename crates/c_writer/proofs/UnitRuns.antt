@@ -10,7 +10,7 @@ use Rattle.scr_spec.specs.Meaning.{Codes, code_of}
 use Rattle.scr_spec.specs.Relations.{is_monitored}
 use Rattle.scr_depend.specs.declared.order.Order.{Order}
 use Rattle.scr_next.specs.Runs.{IsConsistent, IsInitial, IsStep, IsRun, Leads}
-use Rattle.scr_next.specs.Laws.{PassesChecks}
+use Rattle.scr_depend.specs.Passes.{PassesChecks}
 use Rattle.scr_next.proofs.Order.{monitored_within}
 use Rattle.scr_next.proofs.Next.{step_consistent}
 use Rattle.scr_next.proofs.Begin.{one_initial}

@@ -25,12 +25,13 @@ use Rattle.scr_spec.proofs.Lookup.{all_get}
 use Rattle.dd_formula.specs.declared.formula.Term.{Term}
 use Rattle.dd_formula.specs.declared.formula.Linear.{Linear}
 use Rattle.dd_formula.specs.declared.formula.Formula.{Formula}
+use Rattle.dd_formula.specs.Measure.{all_atoms}
 use Rattle.scr_formula.specs.Measure as own
 use Rattle.scr_formula.specs.Measure.{is_own_level, greatest_measure, IsOver}
 use Rattle.dd_store.specs.Domains.{IsDomain}
 use Rattle.dd_build.specs.Atoms as over
 use Rattle.dd_build.specs.Atoms.{bound_of}
-use Rattle.dd_build.specs.Formulas.{IsFormulaOver}
+use Rattle.dd_build.specs.Formulas.{IsFormulaOver, AreFormulasOver}
 use Rattle.scr_decide.specs.Levels.{level_domain, level_domains}
 use Rattle.scr_decide.proofs.AtomTests.{all_atoms-implies}
 
@@ -126,3 +127,10 @@ atom_there spec a h =
 -- a formula of the specification is one over its levels
 pub over_levels : (spec : Data) (f : Formula) → IsOver spec f → IsFormulaOver (level_domains spec) f
 over_levels spec f h = all_atoms-implies (own.is_atom_over spec) (over.is_atom_over (level_domains spec)) (atom_there spec) f h
+
+-- so are several
+pub all_over_levels : (spec : Data) (fs : List Formula) → IsTrue (list_all (all_atoms (own.is_atom_over spec)) fs) → AreFormulasOver (level_domains spec) fs
+all_over_levels spec [] h = refl
+all_over_levels spec (f ∷ fs) h =
+    let both = and_parts (all_atoms (own.is_atom_over spec) f) (list_all (all_atoms (own.is_atom_over spec)) fs) h in
+    and_from _ _ (over_levels spec f both.0) (all_over_levels spec fs both.1)

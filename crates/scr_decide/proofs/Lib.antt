@@ -1,4 +1,5 @@
 pub mod Occurs
+pub mod OneMember
 pub mod SameTruth
 pub mod Truths
 pub mod Counting
@@ -10,3 +11,4 @@ pub mod AtomTests
 pub mod LevelLaws
 pub mod SomeLeast
 pub mod Single
+pub mod Solutions

@@ -5,3 +5,4 @@ pub mod Readings
 pub mod InTurn
 pub mod Decisions
 pub mod Alone
+pub mod Pairs

@@ -5,6 +5,7 @@ ghost use Rattle.scr_spec.specs.Shown.{data_of};
 ghost use Rattle.dd_store.specs.Domains.{IsDomain};
 ghost use Rattle.scr_decide.specs.Levels.{level_domains};
 ghost use Rattle.scr_decide.specs.Decisions.{IsBare};
+ghost use Rattle.dd_store.specs.declared.store.TheConstants.{NODE_LIMIT};
 
 use dd_store::Store;
 use scr_spec::{Domain, Spec};
@@ -26,7 +27,7 @@ fn domains_of(alloc: Global, spec: &Spec) -> Result<Vec<Domain>, NoMemory>
 
 /// A store without nodes.
 pub fn new_store(alloc: Global, spec: &Spec, limit: u32) -> Result<Store, NoMemory>
-    requires { limit ≤ 40000 }
+    requires { limit ≤ NODE_LIMIT }
     ensures { IfOk result (IsBare (level_domains (data_of spec.now)) limit) }
 {
     let domains = domains_of(alloc, spec)?;

@@ -1,6 +1,7 @@
 //! Witnesses.
-ghost use Rattle.std.specs.Prelude.{◌≡◌, ◌==◌, IfOk};
+ghost use Rattle.std.specs.Prelude.{◌≡◌, ◌==◌, ◌++◌, IfOk};
 ghost use Rattle.std.specs.List.{list_any};
+ghost use Rattle.dd_formula.specs.declared.formula.Formula.TheVariants.{And};
 ghost use Rattle.scr_decide.specs.Readings.{occurs, readings_of};
 
 use scr_formula::{Formula, Term};
@@ -56,14 +57,27 @@ fn any_occurs(fs: &[Formula], level: usize) -> bool
     false
 }
 
-/// The codes of the levels that occur in the formula.
+/// Whether the level occurs in a member of one of two lists.
+fn occurs_in(first: &[Formula], rest: &[Formula], level: usize) -> bool
+    ensures { result ≡ occurs level (And (first.now ++ rest.now)) }
+{
+    any_occurs(first, level) || any_occurs(rest, level)
+}
+
+/// The codes of the levels that occur in the conjunction of members in two places, of those in
+/// `codes`, which has one for each level.
 #[tactic(auto, using(crate::proofs::Occurs::more_readings))]
-pub(crate) fn witness_of(alloc: Global, f: &Formula, codes: &[i64]) -> Result<Witness, NoMemory>
-    ensures { IfOk result (λ w. w.readings ≡ readings_of f.now codes.now) }
+pub fn witness_of(
+    alloc: Global,
+    first: &[Formula],
+    rest: &[Formula],
+    codes: &[i64],
+) -> Result<Witness, NoMemory>
+    ensures { IfOk result (λ w. w.readings ≡ readings_of (And (first.now ++ rest.now)) codes.now) }
 {
     let mut readings = Items::new(alloc);
     for (level, code) in codes.iter().enumerate() {
-        if occurs(f, level) {
+        if occurs_in(first, rest, level) {
             readings.push(Reading { level, code: *code })?;
         }
     }

@@ -6,3 +6,4 @@ pub mod Events
 pub mod Tables
 pub mod Violations
 pub mod Frozen
+pub mod Solutions

@@ -26,7 +26,8 @@ use Rattle.scr_goals.specs.declared.goal.GoalKind.TheVariants.{Disjoint, Range}
 use Rattle.scr_goals.specs.declared.goal.Goal.{Goal}
 use Rattle.scr_goals.specs.Pairs.{pair_formulas}
 use Rattle.scr_goals.specs.Goals.{monitored_variables, changes_in, disjoint_goal, disjoint_goals, cover_goal, cover_goals, range_goal, range_goals, columns_in, table_goals}
-use Rattle.scr_goals.specs.Formulas.{at_row, violated, violation, table_goal_formula, IsSolution}
+use Rattle.scr_goals.specs.Formulas.{at_row, violated, violation, table_goal_formula}
+use Rattle.scr_formula.specs.Solutions.{IsSolution}
 use Rattle.scr_goals.specs.Violated.{IsUncovered, IsWrongAt, HasChanged, IsViolatedAt}
 use Rattle.scr_goals.proofs.Disjoint.{CoreTells, Told, BothHold, both_tell, frozen_kept, goal_plain, change_goals, one_less}
 use Rattle.scr_goals.proofs.Ranges.{HoldsOutside, range_tells, range_plain}

@@ -8,7 +8,7 @@ mod law;
 mod list;
 mod pair;
 
-pub use formula::{goal_formula, goal_formula_for};
+pub use formula::{goal_formula, goal_formula_for, related_where, wrong_where};
 pub use goal::{Goal, GoalKind};
 pub use law::{goals_decide, goals_tell, same_unbounded};
 pub use list::goals;

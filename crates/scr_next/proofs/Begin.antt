@@ -18,7 +18,7 @@ use Rattle.scr_depend.specs.Meets.{AreRight, IsJudgedAt, MeetsChecks}
 use Rattle.scr_next.specs.Runs.{init_of, IsInitial}
 use Rattle.scr_next.specs.Given.{Gives, GivesOrKeeps}
 use Rattle.scr_next.specs.Settled.{IsBegun, start_codes}
-use Rattle.scr_next.specs.Laws.{PassesChecks}
+use Rattle.scr_depend.specs.Passes.{PassesChecks}
 use Rattle.scr_next.proofs.Local.{Agree}
 use Rattle.scr_next.proofs.Cells.{IsJudged, given_or_kept, taken_gives, gives_taken, gives_looked, covered, code_once, code_within, code_local, gives_local}
 use Rattle.scr_next.proofs.Apart.{rows_apart}

@@ -16,7 +16,7 @@ use Rattle.scr_depend.specs.Meets.{AreRight}
 use Rattle.scr_depend.proofs.Dependent.{whole_graph}
 use Rattle.scr_next.specs.Runs.{IsConsistent, IsInput, Follows, IsStep}
 use Rattle.scr_next.specs.Settled.{IsSettled}
-use Rattle.scr_next.specs.Laws.{PassesChecks}
+use Rattle.scr_depend.specs.Passes.{PassesChecks}
 use Rattle.scr_next.proofs.Local.{Agree}
 use Rattle.scr_next.proofs.Cells.{given_or_kept, code_once, code_local}
 use Rattle.scr_next.proofs.Apart.{rows_apart}

@@ -16,7 +16,8 @@ use Rattle.scr_spec.proofs.Lookup.{all_get}
 use Rattle.scr_depend.specs.declared.order.Order.{Order}
 use Rattle.scr_depend.specs.Related.{bound_of, IsBounded, HasNoBounds}
 use Rattle.scr_next.specs.Runs.{init_of, IsConsistent, IsInitial, IsInputFreely, IsInput, Follows, IsStepFreely, IsStep, Leads, IsRunBy, IsRun, EndsIn, ComeInTurn, written_codes, AreValid}
-use Rattle.scr_next.specs.Laws.{PassesChecks, OneNextState, OneRun, StepsAreRelated, SameUnboundedRuns}
+use Rattle.scr_depend.specs.Passes.{PassesChecks}
+use Rattle.scr_next.specs.Laws.{OneNextState, OneRun, StepsAreRelated, SameUnboundedRuns}
 use Rattle.scr_next.proofs.Order.{monitored_init, monitored_within}
 use Rattle.scr_next.proofs.Next.{follows_related, related_pair, next_state, one_next, step_consistent}
 use Rattle.scr_next.proofs.Begin.{initial_state, one_initial}

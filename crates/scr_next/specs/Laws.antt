@@ -6,16 +6,9 @@ use Rattle.scr_spec.specs.declared.state.Input.{Input}
 use Rattle.scr_spec.specs.Meaning.{Codes}
 use Rattle.scr_spec.specs.Sound.{IsSound}
 use Rattle.scr_depend.specs.declared.order.Order.{Order}
-use Rattle.scr_depend.specs.Results.{IsOrderOf}
-use Rattle.scr_depend.specs.Meets.{AreRight}
+use Rattle.scr_depend.specs.Passes.{PassesChecks}
 use Rattle.scr_depend.specs.Related.{HasNoBounds, IsRelated, IsRelatedBy}
 use Rattle.scr_next.specs.Runs.{IsConsistent, IsInitial, IsInput, IsStep, IsRun, IsRunFreely, EndsIn, AreValid, AreValidFreely}
-
--- what the type `Checked` keeps of its specification and order
-pub record PassesChecks (spec : Data) (order : Order) : Type 0 where
-  pub sound : IsSound spec
-  pub ordered : IsOrderOf spec order
-  pub right : ∥ AreRight spec ∥₁
 
 -- exactly one state is initial, and exactly one follows a consistent state on an input that may come in it
 pub record OneNextState : Type 0 where

@@ -6,7 +6,7 @@ use Rattle.scr_spec.specs.Meaning.{Codes}
 use Rattle.scr_spec.specs.Sound.{IsSound}
 use Rattle.scr_depend.specs.declared.order.Order.{Order}
 use Rattle.scr_next.specs.Runs.{IsConsistent, IsInitial, IsInput, IsRun}
-use Rattle.scr_next.specs.Laws.{PassesChecks}
+use Rattle.scr_depend.specs.Passes.{PassesChecks}
 use Rattle.scr_simulator.specs.Script.{read_line}
 use Rattle.scr_simulator.specs.Scripts.{Ending, Reads}
 

@@ -1,5 +1,6 @@
-use Rattle.scr_decide.proofs.Listed.{has_own_tree}
+use Rattle.scr_decide.proofs.OneMember.{decision_told}
 use Rattle.scr_decide.proofs.decision.list_formula.Goals as goal
 
-pub answer-requires-clause-has : goal.answer-requires-clause-has
-answer-requires-clause-has c = has_own_tree c.args.store.now c.build.new.store c.args.f.now c.in-Ok.id c.in-Ok.ensures.keeps c.in-Ok.ensures.built
+pub returns-clause-decision : goal.returns-clause-decision
+returns-clause-decision c =
+    decision_told c.args.f.now c.args.store.now c.list_conjunction.new.store c.list_conjunction.result c.from_ref.result.now c.from_ref.ensures.value c.list_conjunction.ensures.decision
