@@ -26,13 +26,13 @@ use Rattle.scr_depend.specs.Dependencies.{graph_of}
 use Rattle.scr_depend.specs.Orders.{IsOrder}
 use Rattle.scr_depend.specs.Needs.{IsNeed}
 use Rattle.scr_goals.specs.Pairs.{need_formulas, change_formula, pair_formulas}
-use Rattle.scr_goals.specs.Formulas.{IsSolution}
+use Rattle.scr_formula.specs.Solutions.{IsSolution}
 use Rattle.scr_goals.proofs.PairTruth.{pairs_tell}
 use Rattle.scr_goals.proofs.Mixed.{mixed, mixed_typed, mixed_keeps, mixed_level}
 use Rattle.scr_candidates.specs.declared.candidate.Candidate.{Candidate}
 use Rattle.scr_decide.specs.Levels.{level_domains}
 use Rattle.scr_decide.specs.Least.{IsUnsatisfiable}
-use Rattle.scr_verdict.proofs.Solutions.{no_solution}
+use Rattle.scr_decide.proofs.Solutions.{no_solution}
 use Rattle.scr_invariants.specs.Formulas.{candidate_formula, HasTruthOfCandidate, before_formula, broken_formulas, moved_formulas, test_formula}
 use Rattle.scr_invariants.specs.Holds.{holds_in, IsBrokenAt, IsKeptBy}
 

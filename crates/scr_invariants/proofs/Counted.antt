@@ -12,7 +12,7 @@ use Rattle.scr_decide.specs.declared.witness.Witness.{Witness}
 use Rattle.scr_decide.specs.declared.decision.Decision.TheVariants.{Over, Unsatisfiable, Satisfied}
 use Rattle.scr_decide.specs.Levels.{level_domains}
 use Rattle.scr_decide.specs.Alone.{IsDecided}
-use Rattle.scr_verdict.proofs.Solutions.{shows_solution}
+use Rattle.scr_decide.proofs.Solutions.{shows_solution}
 use Rattle.scr_invariants.specs.Formulas.{test_formula}
 use Rattle.scr_invariants.specs.Tests.{test_nodes, IsKeptWithin, IsBrokenWithin, IsPastLimit}
 use Rattle.scr_invariants.proofs.Breaks.{breaks, kept_by}

@@ -3,7 +3,9 @@ pub mod Breaks
 pub mod Counted
 pub mod Standings
 pub mod Testing
+pub mod InSetting
 pub mod Progress
+pub mod Marking
 pub mod OverRuns
 pub mod Sound
 pub mod SomeDerived

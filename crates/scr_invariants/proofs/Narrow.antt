@@ -114,7 +114,7 @@ module _ (spec : Data) (class : ℕ) (sound : IsSound spec) (is_class : IsTrue (
       list_all-append p needs (relation_formula spec class ∷ change_formula spec x ∷ [])
       ∙ and_from _ _ pairs.0 (and_from _ _ (relation_over_ok spec class (Ok (relation_formula spec class)) sound refl) pairs.1)
 
-  over_test : (order need : List ℕ) (known : List Candidate) (c : Candidate) (x : ℕ) → AreOver spec class known → IsTrue (is_candidate_over spec class c) → IsTrue (is_monitored spec x)
+  pub over_test : (order need : List ℕ) (known : List Candidate) (c : Candidate) (x : ℕ) → AreOver spec class known → IsTrue (is_candidate_over spec class c) → IsTrue (is_monitored spec x)
       → IsOver spec (test_formula spec order need class known c x)
   over_test order need known c x all h m =
       let p = all_atoms (is_atom_over spec) in
@@ -123,13 +123,8 @@ module _ (spec : Data) (class : ℕ) (sound : IsSound spec) (is_class : IsTrue (
       frozen_bounds spec x (And (fs ++ gs)) greatest_measure
       ∙ all_atoms-And (is_atom_over spec) (fs ++ gs) ∙ list_all-append p fs gs ∙ and_from _ _ (over_broken known c all h) (over_moved order need x m)
 
--- the laws of the calls
+-- the law of the call
 pub candidate_over_ok : (spec : Data) (new : Bool) (class : ℕ) (c : Candidate) (r : Result Formula NoMemory) → IsSound spec → IsTrue (is_class_at spec class) → IsTrue (is_candidate_over spec class c)
     → IfOk r (λ f. f ≡ candidate_formula spec new class c) → IfOk r (λ f. IsOver spec f)
 candidate_over_ok spec new class c (Ok f) sound is_class h e = subst (IsOver spec) (sym e) (over_candidate spec class sound is_class new c h)
 candidate_over_ok spec new class c (Err z) sound is_class h e = e
-
-pub test_over_ok : (spec : Data) (order need : List ℕ) (class : ℕ) (known : List Candidate) (c : Candidate) (x : ℕ) (r : Result Formula NoMemory) → IsSound spec → IsTrue (is_class_at spec class) → AreOver spec class known
-    → IsTrue (is_candidate_over spec class c) → IsTrue (is_monitored spec x) → IfOk r (λ f. f ≡ test_formula spec order need class known c x) → IfOk r (λ f. IsOver spec f)
-test_over_ok spec order need class known c x (Ok f) sound is_class all h m e = subst (IsOver spec) (sym e) (over_test spec class sound is_class order need known c x all h m)
-test_over_ok spec order need class known c x (Err z) sound is_class all h m e = e

@@ -15,11 +15,11 @@ use Rattle.scr_invariants.specs.Rounds.{Tests, known_of, found_of, number_passed
 use Rattle.scr_depend.specs.Dependencies.{graph_of}
 use Rattle.scr_depend.specs.declared.order.Order.{Order}
 use Rattle.scr_depend.proofs.SomeNeed.{some_need}
-use Rattle.scr_next.specs.Laws.{PassesChecks}
+use Rattle.scr_depend.specs.Passes.{PassesChecks}
 use Rattle.scr_next.specs.Runs.{IsInitial}
 use Rattle.scr_next.proofs.Runs.{one_next_state}
 use Rattle.scr_candidates.proofs.Once.{one_list}
-use Rattle.scr_verdict.proofs.OneNeed.{one_need}
+use Rattle.scr_depend.proofs.OneNeed.{one_need}
 use Rattle.scr_invariants.specs.Derivations.{HasDerived}
 use Rattle.scr_invariants.specs.Laws.{OneDerived}
 use Rattle.scr_invariants.proofs.SomeDerived.{some_derivation}

@@ -9,7 +9,7 @@ use Rattle.scr_spec.specs.Relations.{is_monitored, is_dependent}
 use Rattle.scr_candidates.specs.declared.candidate.Candidate.{Candidate}
 use Rattle.scr_depend.specs.Related.{IsRelatedBy}
 use Rattle.scr_depend.specs.declared.order.Order.{Order}
-use Rattle.scr_next.specs.Laws.{PassesChecks}
+use Rattle.scr_depend.specs.Passes.{PassesChecks}
 use Rattle.scr_next.specs.Runs.{IsConsistent, IsInitial, IsStep, Leads, IsRun}
 use Rattle.scr_next.proofs.Runs.{one_next_state, steps_are_related}
 use Rattle.scr_invariants.specs.Holds.{holds_in, IsKeptBy}

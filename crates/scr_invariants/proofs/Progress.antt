@@ -1,5 +1,5 @@
 -- A round, candidate by candidate, and rounds, one after another.
-use Rattle.std.proofs.Common.{◌≡◌, ℕ, suc, ◌+◌, ◌<◌, ◌≤◌, Bool, true, false, ◌||◌, Option, Some, None, List, [], ◌∷◌, ◌++◌, length, get_or, take, drop, map, refl, sym, ap, subst, ◌∙◌, arith, add-one, drop-cons, append_assoc, append-nil, length-append}
+use Rattle.std.proofs.Common.{◌≡◌, ℕ, suc, ◌+◌, ◌<◌, ◌≤◌, Bool, true, false, Option, Some, None, List, [], ◌∷◌, ◌++◌, length, get_or, take, drop, map, refl, sym, ap, subst, ◌∙◌, arith, add-one, drop-cons, append_assoc, append-nil, length-append}
 use Rattle.std.specs.List.{list_all}
 use Rattle.std.proofs.lemmas.Bool.{and_parts, and_from}
 use Rattle.std.proofs.lemmas.List.{take_more, take_all, drop_all}
@@ -8,8 +8,9 @@ use Rattle.scr_candidates.specs.declared.candidate.Candidate.{Candidate}
 use Rattle.scr_candidates.specs.Candidates.{is_candidate_over, AreOver}
 use Rattle.scr_invariants.specs.declared.standing.Standing.{Standing}
 use Rattle.scr_invariants.specs.declared.derived.Found.{Found}
+use Rattle.scr_invariants.specs.declared.change.Tested.TheVariants.{Past}
 use Rattle.scr_invariants.specs.Rounds.{Tests, standing_of, passed_in, known_in, known_of, found_of, IsMarked, passed_before, fails, passes, IsRound, no_more, next, StopsAt, here, later, number_passed, IsAfter, start, one_more, IsFixed, IsStopped}
-use Rattle.scr_invariants.specs.Steps.{HasStood, IsPast, HasGained, AreStandingOver}
+use Rattle.scr_invariants.specs.Steps.{HasGained, AreStandingOver}
 use Rattle.scr_invariants.proofs.Standings.{known_append}
 
 -- ---- a round, after the first i candidates
@@ -46,8 +47,8 @@ module _ (test : Tests) (round : ℕ) (known : List Candidate) (ss : List Standi
     begun : take (i + 1) ss ≡ take i ss ++ s ∷ []
     begun = take_more ss i s lt ∙ ap (λ (t : Standing). take i ss ++ t ∷ []) (sym at)
 
-    pub round_stops : IsPast test known s → StopsAt test round known ss s.candidate
-    round_stops past = h.stops s.candidate (subst (λ ys. StopsAt test round known ys s.candidate) (sym front) (here past.open_before past.past))
+    pub round_stops : s.round ≡ None → test known s.candidate Past → StopsAt test round known ss s.candidate
+    round_stops open_before past = h.stops s.candidate (subst (λ ys. StopsAt test round known ys s.candidate) (sym front) (here open_before past))
 
     goes : (t : Standing) → IsMarked test round known s t → (ts : List Standing) → IsRound test round known (drop (i + 1) ss) ts → IsRound test round known ss ((out ++ t ∷ []) ++ ts)
     goes t marked ts rest =
@@ -84,25 +85,6 @@ module _ (test : Tests) (round : ℕ) (known : List Candidate) (ss : List Standi
           fewer = omega (arith, fewer, before, none, after, one);
           more = λ some. omega (arith, fewer, before, none, after, one);
         }
-
-    or_false : (a : Bool) → (a || false) ≡ a
-    or_false true = refl
-    or_false false = refl
-
-    or_true : (a : Bool) → (a || true) ≡ true
-    or_true true = refl
-    or_true false = refl
-
-    by_passed : (t : Standing) (passed : Bool) → HasStood test round known s t passed → IsInRound test round known ss (i + 1) (out ++ t ∷ []) (gained || passed)
-    by_passed t false stood =
-        subst (IsInRound test round known ss (i + 1) (out ++ t ∷ [])) (sym (or_false gained)) (round_same t (stood.same refl) stood.marked)
-    by_passed t true stood =
-        subst (IsInRound test round known ss (i + 1) (out ++ t ∷ [])) (sym (or_true gained)) (round_passes t (stood.open_before refl) (stood.passed_now refl) stood.marked)
-
-    pub round_next : (t : Standing) (passed : Bool) (out_now : List Standing) (gained_now : Bool) → HasStood test round known s t passed → out_now ≡ out ++ t ∷ [] → gained_now ≡ (gained || passed)
-        → IsInRound test round known ss (i + 1) out_now gained_now
-    round_next t passed out_now gained_now stood e g =
-        subst (λ ys. IsInRound test round known ss (i + 1) ys gained_now) (sym e) (subst (IsInRound test round known ss (i + 1) (out ++ t ∷ [])) (sym g) (by_passed t passed stood))
 
 -- ---- rounds
 

@@ -27,10 +27,13 @@ HasTruthOfCandidate spec new class c f = (s t : Codes) → holds_at (valuation_o
 abbrev pub before_formula : Data → ℕ → Candidate → Formula
 before_formula spec class c = candidate_formula spec false class c
 
--- it does not hold after, it holds before, and so does all that is known
+-- it does not hold after, and it holds before
+abbrev pub own_formulas : Data → ℕ → Candidate → List Formula
+own_formulas spec class c = has_code true class c.mode ∷ Not (condition_formula spec true c.cond) ∷ before_formula spec class c ∷ []
+
+-- and so does all that is known
 abbrev pub broken_formulas : Data → ℕ → List Candidate → Candidate → List Formula
-broken_formulas spec class known c =
-    has_code true class c.mode ∷ Not (condition_formula spec true c.cond) ∷ before_formula spec class c ∷ map (before_formula spec class) known
+broken_formulas spec class known c = own_formulas spec class c ++ map (before_formula spec class) known
 
 -- what the class needs, for each variable of the order; then how the class moves; last that x changes
 abbrev pub moved_formulas : Data → List ℕ → List ℕ → ℕ → ℕ → List Formula

@@ -6,7 +6,7 @@ use Rattle.scr_spec.specs.Meaning.{Codes}
 use Rattle.scr_spec.specs.declared.state.Input.{Input}
 use Rattle.scr_spec.specs.Tables.{is_class_at}
 use Rattle.scr_depend.specs.declared.order.Order.{Order}
-use Rattle.scr_next.specs.Laws.{PassesChecks}
+use Rattle.scr_depend.specs.Passes.{PassesChecks}
 use Rattle.scr_next.specs.Runs.{IsRun}
 use Rattle.scr_invariants.specs.declared.derived.Found.{Found}
 use Rattle.scr_invariants.specs.declared.derived.Derived.{Derived}

@@ -1,18 +1,20 @@
 //! The test of a candidate in which one monitored variable changes.
 ghost use Rattle.std.specs.Prelude.{◌≤◌, IsTrue, IfOk};
-ghost use Rattle.scr_spec.specs.Shown.{data_of};
-ghost use Rattle.scr_spec.specs.Relations.{is_monitored};
-ghost use Rattle.scr_spec.specs.Tables.{is_class_at};
-ghost use Rattle.scr_depend.specs.Dependencies.{graph_of};
-ghost use Rattle.scr_depend.specs.Needs.{IsNeed};
-ghost use Rattle.scr_candidates.specs.Candidates.{is_candidate_over, AreOver};
-ghost use Rattle.scr_invariants.specs.Tests.{IsChangeTested};
+ghost use Rattle.scr_goals.specs.Pairs.{AreOver as AreFormulasOver};
+ghost use Rattle.scr_candidates.specs.Candidates.{is_candidate_over};
+ghost use Rattle.scr_decide.specs.Levels.{level_domains};
+ghost use Rattle.scr_decide.specs.Alone.{IsDecided};
+ghost use Rattle.scr_invariants.specs.Settings.{spec_in, IsBegun, IsMovedIn, front_in, formula_in, change_test_in};
+ghost use Rattle.dd_store.specs.declared.store.TheConstants.{NODE_LIMIT};
 
-use crate::formula::test_formula;
+use crate::formula::{own, push_frozen};
+use crate::moves::Moved;
+use crate::setting::Round;
 use scr_candidates::Candidate;
-use scr_decide::{Decision, decide};
-use scr_depend::Checked;
+use scr_decide::{Decision, decide_conjunction};
+use scr_formula::Formula;
 use scr_text::NoMemory;
+use sqlite_items::Items;
 use std::alloc::Global;
 
 /// How a test ends: nothing breaks the candidate; it is false at first, or a change breaks it; or a
@@ -24,30 +26,43 @@ pub(crate) enum Tested {
     Past,
 }
 
-/// The test in which x changes: whether its listing is within the limit, and some change of x breaks
-/// the candidate.
+/// Decides whether this change breaks the candidate of which `own` speaks.
+fn decide_change(
+    alloc: Global,
+    round: &Round,
+    own: &[Formula],
+    moved: &Moved,
+) -> Result<Decision, NoMemory>
+    requires limit { round.now.setting.now.limit ≤ NODE_LIMIT }
+    requires front { AreFormulasOver (spec_in round.now.setting.now) (front_in round.now own.now moved.now) }
+    requires members { AreFormulasOver (spec_in round.now.setting.now) moved.now.members }
+    ensures { IfOk result (IsDecided (level_domains (spec_in round.now.setting.now)) round.now.setting.now.limit (formula_in round.now own.now moved.now)) }
+{
+    let spec = &round.setting.checked.spec;
+    let mut first = Items::new(alloc);
+    push_frozen(&mut first, alloc, spec, moved.changed, own)?;
+    push_frozen(&mut first, alloc, spec, moved.changed, round.before)?;
+    let rest = moved.members.as_slice();
+    decide_conjunction(alloc, spec, first.as_slice(), rest, round.setting.limit)
+}
+
+/// Tests the candidate where this variable changes.
 pub(crate) fn test_change(
     alloc: Global,
-    checked: &Checked,
-    need: &[usize],
-    class: usize,
-    limit: u32,
-    known: &[Candidate],
+    round: &Round,
+    moved: &Moved,
     candidate: &Candidate,
-    x: usize,
 ) -> Result<Tested, NoMemory>
-    requires limit { limit ≤ 40000 }
-    requires class { IsTrue (is_class_at (data_of checked.now.spec) class) }
-    requires needed { IsNeed (graph_of (data_of checked.now.spec)) class need.now }
-    requires known { AreOver (data_of checked.now.spec) class known.now }
-    requires over { IsTrue (is_candidate_over (data_of checked.now.spec) class candidate.now) }
-    requires monitored { IsTrue (is_monitored (data_of checked.now.spec) x) }
-    ensures { IfOk result (IsChangeTested (data_of checked.now.spec) checked.now.order.list need.now class limit known.now candidate.now x) }
+    requires begun { IsBegun round.now }
+    requires moved { IsMovedIn round.now moved.now }
+    requires over { IsTrue (is_candidate_over (spec_in round.now.setting.now) round.now.setting.now.class candidate.now) }
+    ensures { IfOk result (change_test_in round.now candidate.now moved.now.changed) }
 {
-    let formula = test_formula(alloc, checked, need, class, known, candidate, x)?;
-    match decide(alloc, &checked.spec, &formula, limit)? {
+    let setting = round.setting;
+    let own = own(alloc, &setting.checked.spec, setting.class, candidate)?;
+    match decide_change(alloc, round, own.as_slice(), moved)? {
         Decision::Over => Ok(Tested::Past),
-        Decision::Unsatisfiable => Ok(Tested::Kept),
         Decision::Satisfied(_) => Ok(Tested::Broken),
+        Decision::Unsatisfiable => Ok(Tested::Kept),
     }
 }

@@ -5,8 +5,11 @@ mod change;
 mod derived;
 mod formula;
 mod law;
+mod moves;
+mod outcomes;
 mod round;
 mod rounds;
+mod setting;
 mod standing;
 mod trial;
 

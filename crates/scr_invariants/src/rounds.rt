@@ -1,83 +1,66 @@
 //! Rounds of tests, up to the first in which no candidate passes.
 ghost use Rattle.std.specs.Prelude.{◌≡◌, ◌≤◌, IsTrue, IfOk};
 ghost use Rattle.scr_spec.specs.Shown.{data_of};
-ghost use Rattle.scr_spec.specs.Domains.{IsTyped};
 ghost use Rattle.scr_spec.specs.Tables.{is_class_at};
-ghost use Rattle.scr_depend.specs.Dependencies.{graph_of};
-ghost use Rattle.scr_depend.specs.Needs.{IsNeed};
 ghost use Rattle.scr_candidates.specs.Candidates.{AreOver};
-ghost use Rattle.scr_invariants.specs.Tests.{IsTested};
+ghost use Rattle.scr_invariants.specs.Settings.{spec_in, IsSetUp, test_in};
 ghost use Rattle.scr_invariants.specs.Rounds.{known_of, IsDerived};
 ghost use Rattle.scr_invariants.specs.Steps.{AreStandingOver, IsRoundEnd};
 ghost use Rattle.scr_invariants.specs.Derivations.{HasDerived, IsDerivedOver};
+ghost use Rattle.dd_store.specs.declared.store.TheConstants.{NODE_LIMIT};
 
 use crate::derived::Derived;
+use crate::formula::all_before;
 use crate::round::{RoundEnd, run_round};
+use crate::setting::{Round, Setting};
 use crate::standing::{Standing, begin, found, known};
+use crate::trial::monitored;
 use scr_candidates::{Candidate, candidates};
 use scr_depend::{Checked, need};
 use scr_next::initial;
-use scr_spec::State;
 use scr_text::NoMemory;
 use std::alloc::Global;
 
 /// One round over these, of which those that have passed are known.
 fn next_round(
     alloc: Global,
-    checked: &Checked,
-    need: &[usize],
-    class: usize,
-    limit: u32,
-    first: &State,
+    setting: &Setting,
     standings: &[Standing],
-    round: u64,
+    number: u64,
 ) -> Result<RoundEnd, NoMemory>
-    requires limit { limit ≤ 40000 }
-    requires class { IsTrue (is_class_at (data_of checked.now.spec) class) }
-    requires needed { IsNeed (graph_of (data_of checked.now.spec)) class need.now }
-    requires first { IsTyped (data_of checked.now.spec) first.now.codes }
-    requires over { AreStandingOver (data_of checked.now.spec) class standings.now }
-    ensures { IfOk result (IsRoundEnd (IsTested (data_of checked.now.spec) checked.now.order.list need.now class limit first.now.codes) round (known_of standings.now) standings.now) }
+    requires set_up { IsSetUp setting.now }
+    requires over { AreStandingOver (spec_in setting.now) setting.now.class standings.now }
+    ensures { IfOk result (IsRoundEnd (test_in setting.now) number (known_of standings.now) standings.now) }
 {
     let known = known(alloc, standings)?;
     let known = known.as_slice();
-    run_round(
-        alloc, checked, need, class, limit, first, known, standings, round,
-    )
+    let before = all_before(alloc, &setting.checked.spec, setting.class, known)?;
+    let before = before.as_slice();
+    let round = Round {
+        setting,
+        number,
+        known,
+        before,
+    };
+    run_round(alloc, &round, standings)
 }
 
 /// Round after round. In each but the last some candidate passes, so there are at most as many of these
 /// as there are candidates.
 fn run_rounds(
     alloc: Global,
-    checked: &Checked,
-    need: &[usize],
-    class: usize,
-    limit: u32,
-    first: &State,
+    setting: &Setting,
     candidates: &[Candidate],
 ) -> Result<Derived, NoMemory>
-    requires limit { limit ≤ 40000 }
-    requires class { IsTrue (is_class_at (data_of checked.now.spec) class) }
-    requires needed { IsNeed (graph_of (data_of checked.now.spec)) class need.now }
-    requires first { IsTyped (data_of checked.now.spec) first.now.codes }
-    requires over { AreOver (data_of checked.now.spec) class candidates.now }
-    ensures { IfOk result (IsDerived (IsTested (data_of checked.now.spec) checked.now.order.list need.now class limit first.now.codes) candidates.now) }
+    requires set_up { IsSetUp setting.now }
+    requires over { AreOver (spec_in setting.now) setting.now.class candidates.now }
+    ensures { IfOk result (IsDerived (test_in setting.now) candidates.now) }
 {
     let mut standings = begin(alloc, candidates)?;
     let count = candidates.len();
     for rounds in 0..count {
         let round = rounds as u64 + 1;
-        match next_round(
-            alloc,
-            checked,
-            need,
-            class,
-            limit,
-            first,
-            standings.as_slice(),
-            round,
-        )? {
+        match next_round(alloc, setting, standings.as_slice(), round)? {
             RoundEnd::Stopped(candidate) => return Ok(Derived::Undecided(round, candidate)),
             RoundEnd::Fixed => return Ok(Derived::All(found(alloc, standings.as_slice())?)),
             RoundEnd::Gained(next) => standings = next,
@@ -92,7 +75,7 @@ fn derive_at(
     class: usize,
     limit: u32,
 ) -> Result<Derived, NoMemory>
-    requires limit { limit ≤ 40000 }
+    requires limit { limit ≤ NODE_LIMIT }
     requires class { IsTrue (is_class_at (data_of checked.now.spec) class) }
     ensures { IfOk result (HasDerived (data_of checked.now.spec) checked.now.order.list class limit) }
 {
@@ -100,15 +83,16 @@ fn derive_at(
     let listed = candidates(alloc, spec, class)?;
     let needed = need(alloc, spec, class)?;
     let first = initial(alloc, checked)?;
-    run_rounds(
-        alloc,
+    let monitored = monitored(alloc, spec)?;
+    let setting = Setting {
         checked,
-        needed.as_slice(),
         class,
+        need: needed.as_slice(),
         limit,
-        &first,
-        listed.as_slice(),
-    )
+        first: &first,
+        monitored: monitored.as_slice(),
+    };
+    run_rounds(alloc, &setting, listed.as_slice())
 }
 
 /// Derives invariants of the modes of a class: the candidates that pass in some round, each with the
@@ -120,7 +104,7 @@ pub fn derive(
     class: usize,
     limit: u32,
 ) -> Result<Derived, NoMemory>
-    requires limit { limit ≤ 40000 }
+    requires limit { limit ≤ NODE_LIMIT }
     requires class { IsTrue (is_class_at (data_of checked.now.spec) class) }
     ensures derived { IfOk result (HasDerived (data_of checked.now.spec) checked.now.order.list class limit) }
     ensures over { IfOk result (IsDerivedOver (data_of checked.now.spec) class) }

@@ -1,19 +1,19 @@
 //! The test of a candidate.
-ghost use Rattle.std.specs.Prelude.{◌≡◌, ◌<◌, ◌≤◌, length, IsTrue, IfOk};
-ghost use Rattle.std.specs.List.{list_all};
+ghost use Rattle.std.specs.Prelude.{◌≡◌, ◌<◌, [], length, IsTrue, IfOk};
 ghost use Rattle.scr_spec.specs.Shown.{data_of};
 ghost use Rattle.scr_spec.specs.Domains.{IsTyped};
-ghost use Rattle.scr_spec.specs.Relations.{is_monitored};
 ghost use Rattle.scr_spec.specs.Tables.{is_class_at};
-ghost use Rattle.scr_depend.specs.Dependencies.{graph_of};
-ghost use Rattle.scr_depend.specs.Needs.{IsNeed};
-ghost use Rattle.scr_candidates.specs.Candidates.{is_candidate_over, AreOver};
+ghost use Rattle.scr_candidates.specs.Candidates.{is_candidate_over};
 ghost use Rattle.scr_invariants.specs.Holds.{holds_in};
-ghost use Rattle.scr_invariants.specs.Tests.{monitored_variables, AreTested, IsTested};
+ghost use Rattle.scr_invariants.specs.Tests.{monitored_variables};
+ghost use Rattle.scr_invariants.specs.Settings.{spec_in, IsBegun, IsMovedIn};
+ghost use Rattle.scr_invariants.specs.Outcomes.{IsOutcome, IsNextOutcome};
 
 use crate::change::{Tested, test_change};
+use crate::moves::Moved;
+use crate::setting::Round;
+use crate::standing::Standing;
 use scr_candidates::Candidate;
-use scr_depend::Checked;
 use scr_eval::cond_holds;
 use scr_spec::{Spec, State};
 use scr_text::NoMemory;
@@ -55,63 +55,41 @@ fn holds(spec: &Spec, class: usize, at: &State, candidate: &Candidate) -> bool
     at.codes.as_slice()[class] != candidate.mode || cond_holds(spec, &candidate.cond, at)
 }
 
-/// Tests one change after another, up to the first that breaks the candidate or whose count is past
-/// the limit.
-fn test_changes(
-    alloc: Global,
-    checked: &Checked,
-    need: &[usize],
-    class: usize,
-    limit: u32,
-    known: &[Candidate],
-    candidate: &Candidate,
-    changes: &[usize],
-) -> Result<Tested, NoMemory>
-    requires limit { limit ≤ 40000 }
-    requires class { IsTrue (is_class_at (data_of checked.now.spec) class) }
-    requires needed { IsNeed (graph_of (data_of checked.now.spec)) class need.now }
-    requires known { AreOver (data_of checked.now.spec) class known.now }
-    requires over { IsTrue (is_candidate_over (data_of checked.now.spec) class candidate.now) }
-    requires monitored { IsTrue (list_all (is_monitored (data_of checked.now.spec)) changes.now) }
-    ensures { IfOk result (AreTested (data_of checked.now.spec) checked.now.order.list need.now class limit known.now candidate.now changes.now) }
+/// How the tests of a candidate begin. One that has not passed is kept if it holds in the initial state.
+pub(crate) fn first_outcome(round: &Round, standing: &Standing) -> Tested
+    requires begun { IsBegun round.now }
+    requires over { IsTrue (is_candidate_over (spec_in round.now.setting.now) round.now.setting.now.class standing.now.candidate) }
+    ensures { IsOutcome round.now [] standing.now result }
 {
-    for x in changes {
-        match test_change(alloc, checked, need, class, limit, known, candidate, *x)? {
-            Tested::Kept => {}
-            Tested::Broken => return Ok(Tested::Broken),
-            Tested::Past => return Ok(Tested::Past),
+    let setting = round.setting;
+    let spec = &setting.checked.spec;
+    match standing.round {
+        Some(_) => Tested::Broken,
+        None => {
+            if !holds(spec, setting.class, setting.first, &standing.candidate) {
+                return Tested::Broken;
+            }
+            Tested::Kept
         }
     }
-    Ok(Tested::Kept)
 }
 
-/// Tests a candidate: at first, and then for each change.
-pub(crate) fn test(
+/// Tests a candidate that is kept so far where this variable changes.
+pub(crate) fn next_outcome(
     alloc: Global,
-    checked: &Checked,
-    need: &[usize],
-    class: usize,
-    limit: u32,
-    first: &State,
-    known: &[Candidate],
-    candidate: &Candidate,
+    round: &Round,
+    moved: &Moved,
+    standing: &Standing,
+    outcome: Tested,
 ) -> Result<Tested, NoMemory>
-    requires limit { limit ≤ 40000 }
-    requires class { IsTrue (is_class_at (data_of checked.now.spec) class) }
-    requires needed { IsNeed (graph_of (data_of checked.now.spec)) class need.now }
-    requires first { IsTyped (data_of checked.now.spec) first.now.codes }
-    requires known { AreOver (data_of checked.now.spec) class known.now }
-    requires over { IsTrue (is_candidate_over (data_of checked.now.spec) class candidate.now) }
-    ensures { IfOk result (IsTested (data_of checked.now.spec) checked.now.order.list need.now class limit first.now.codes known.now candidate.now) }
+    requires begun { IsBegun round.now }
+    requires moved { IsMovedIn round.now moved.now }
+    requires over { IsTrue (is_candidate_over (spec_in round.now.setting.now) round.now.setting.now.class standing.now.candidate) }
+    ensures { IfOk result (IsNextOutcome round.now moved.now.changed standing.now outcome) }
 {
-    let spec = &checked.spec;
-    if !holds(spec, class, first, candidate) {
-        return Ok(Tested::Broken);
+    match outcome {
+        Tested::Kept => test_change(alloc, round, moved, &standing.candidate),
+        Tested::Broken => Ok(Tested::Broken),
+        Tested::Past => Ok(Tested::Past),
     }
-    let changes = monitored(alloc, spec)?;
-    let changes = changes.as_slice();
-    let outcome = test_changes(
-        alloc, checked, need, class, limit, known, candidate, changes,
-    )?;
-    Ok(outcome)
 }

@@ -1,32 +1,26 @@
-use Rattle.std.proofs.Common.{subst}
-use Rattle.scr_spec.specs.Shown.{data_of}
-use Rattle.dd_formula.specs.declared.formula.Formula.{Formula}
-use Rattle.scr_decide.specs.Levels.{level_domains}
-use Rattle.scr_decide.specs.Alone.{IsDecided}
-use Rattle.scr_invariants.specs.Formulas.{test_formula}
-use Rattle.scr_invariants.proofs.Counted.{change_past, change_kept, change_broken}
+use Rattle.std.proofs.Common.{◌∙◌}
+use Rattle.scr_invariants.proofs.InSetting.{front_over, members_over, test_kept, test_broken, test_past}
 use Rattle.scr_invariants.proofs.change.test_change.Goals as goal
+
+pub decide_change-requires-clause-front : goal.decide_change-requires-clause-front
+decide_change-requires-clause-front c =
+    front_over c.args.round.now c.requires.begun c.args.candidate.now c.args.moved.now c.requires.moved c.as_slice.result.now (c.as_slice.ensures ∙ c.in_ok-own.ensures) c.requires.over
+
+pub decide_change-requires-clause-members : goal.decide_change-requires-clause-members
+decide_change-requires-clause-members c =
+    members_over c.args.round.now c.requires.begun c.args.candidate.now c.args.moved.now c.requires.moved c.as_slice.result.now (c.as_slice.ensures ∙ c.in_ok-own.ensures) c.requires.over
 
 pub returns-in-Over : goal.returns-in-Over
 returns-in-Over c =
-    let spec = data_of c.args.checked.now.spec in
-    let order = c.args.checked.now.order.list in
-    let f = test_formula spec order c.args.need.now c.args.class c.args.known.now c.args.candidate.now c.args.x in
-    change_past spec order c.args.need.now c.args.class c.args.limit c.args.known.now c.args.candidate.now c.args.x c.args.checked.now.ordered.ordered c.requires.needed
-    (subst (IsDecided (level_domains spec) c.args.limit f) c.in-Over.is (subst (λ (g : Formula). IsDecided (level_domains spec) c.args.limit g c.in_ok-decide.field-0) c.in_ok-formula.ensures.formula c.in_ok-decide.ensures))
+    test_past c.args.round.now c.requires.begun c.args.candidate.now c.args.moved.now c.requires.moved c.as_slice.result.now (c.as_slice.ensures ∙ c.in_ok-own.ensures) c.requires.over
+    c.in_ok-decide_change.field-0 c.in_ok-decide_change.ensures c.in-Over.is
 
-pub returns-in-Unsatisfiable : goal.returns-in-Unsatisfiable
-returns-in-Unsatisfiable c =
-    let spec = data_of c.args.checked.now.spec in
-    let order = c.args.checked.now.order.list in
-    let f = test_formula spec order c.args.need.now c.args.class c.args.known.now c.args.candidate.now c.args.x in
-    change_kept spec order c.args.need.now c.args.class c.args.limit c.args.known.now c.args.candidate.now c.args.x c.args.checked.now.ordered.ordered c.requires.needed
-    (subst (IsDecided (level_domains spec) c.args.limit f) c.in-Unsatisfiable.is (subst (λ (g : Formula). IsDecided (level_domains spec) c.args.limit g c.in_ok-decide.field-0) c.in_ok-formula.ensures.formula c.in_ok-decide.ensures))
+pub returns-in-Satisfied : goal.returns-in-Satisfied
+returns-in-Satisfied c =
+    test_broken c.args.round.now c.requires.begun c.args.candidate.now c.args.moved.now c.requires.moved c.as_slice.result.now (c.as_slice.ensures ∙ c.in_ok-own.ensures) c.requires.over
+    c.in_ok-decide_change.field-0 c.in_ok-decide_change.ensures c.in-Satisfied.field-0 c.in-Satisfied.is
 
 pub returns : goal.returns
 returns c =
-    let spec = data_of c.args.checked.now.spec in
-    let order = c.args.checked.now.order.list in
-    let f = test_formula spec order c.args.need.now c.args.class c.args.known.now c.args.candidate.now c.args.x in
-    change_broken spec order c.args.need.now c.args.class c.args.limit c.args.known.now c.args.candidate.now c.args.x c.args.checked.now.ordered.ordered c.requires.needed c.in-Satisfied.field-0
-    (subst (IsDecided (level_domains spec) c.args.limit f) c.in-Satisfied.is (subst (λ (g : Formula). IsDecided (level_domains spec) c.args.limit g c.in_ok-decide.field-0) c.in_ok-formula.ensures.formula c.in_ok-decide.ensures))
+    test_kept c.args.round.now c.requires.begun c.args.candidate.now c.args.moved.now c.requires.moved c.as_slice.result.now (c.as_slice.ensures ∙ c.in_ok-own.ensures) c.requires.over
+    c.in_ok-decide_change.field-0 c.in_ok-decide_change.ensures c.in-Unsatisfiable.is
