@@ -10,6 +10,7 @@ use Rattle.scr_depend.specs.declared.order.Order.{Order}
 use Rattle.scr_depend.specs.Dependencies.{graph_of, read_lists}
 use Rattle.scr_depend.specs.Meets.{AreRight}
 use Rattle.scr_depend.specs.Orders.{IsOrder}
+use Rattle.scr_depend.specs.Passes.{PassesChecks}
 use Rattle.scr_depend.proofs.Dependent.{one_order}
 use Rattle.scr_depend.proofs.SomeCycle.{order_or_cycle}
 use Rattle.scr_verdict.specs.declared.verdict.Verdict.{Verdict}
@@ -26,6 +27,8 @@ use Rattle.scr_job.specs.Ends.{IsFront}
 use Rattle.scr_checking.specs.Reports.{all_yes, verdicts_status, lines_text, passed_text, Reports, ordered, circular, ChecksText, reports, refused}
 use Rattle.scr_checking.specs.Checking.{Passes}
 use Rattle.scr_checking.specs.Laws.{OneChecking}
+use Rattle.scr_checking.specs.Tells.{TellsRight}
+use Rattle.scr_checking.proofs.Telling.{tells_right}
 use Rattle.scr_checking.proofs.Lines.{yes_done, yes_verdicts}
 use Rattle.scr_checking.proofs.Statuses.{all_yes_done}
 
@@ -104,6 +107,12 @@ passed_right : (limit : ℕ) (text : List ℕ) (spec : Data) (order : Order) →
 passed_right limit text spec order p =
     all_right spec order.list limit (spelled_is_sound.sound text spec p.spells) p.passed.ordered.ordered (all_yes spec) (yes_are limit text spec order p) (yes_list spec.tables)
 
+tells : (limit : ℕ) (text bytes : List ℕ) (status : Status) (spec : Data) → Spells text spec → ChecksText limit text bytes status → TellsRight spec bytes status
+tells limit text bytes status spec spelled (reports other also report) =
+    let same : other ≡ spec = one_reading.once text other spec also spelled in
+    tells_right spec limit (spelled_is_sound.sound text spec spelled) bytes status (subst (λ s. Reports s limit bytes status) same report)
+tells limit text bytes status spec spelled (refused refusal is) = absurd (one_reading.apart text spec refusal spelled is)
+
 pub one_checking : OneChecking
 one_checking = record {
   once = text_once;
@@ -113,4 +122,10 @@ one_checking = record {
   one_spec = λ limit text a b o p x y. one_reading.once text a b x.spells y.spells;
   sound = λ limit text spec order p. spelled_is_sound.sound text spec p.spells;
   right = passed_right;
+  tells = tells;
 }
+
+-- what passes has all that a `Checked` keeps
+pub passes_checks : (limit : ℕ) (text : List ℕ) (spec : Data) (order : Order) → Passes limit text spec order → PassesChecks spec order
+passes_checks limit text spec order p =
+    record { sound = one_checking.sound limit text spec order p; ordered = p.passed.ordered; right = ∣ one_checking.right limit text spec order p ∣₁ }

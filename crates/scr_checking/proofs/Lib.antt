@@ -1,5 +1,6 @@
 pub mod Lines
 pub mod Statuses
 pub mod Reported
+pub mod Telling
 pub mod Checks
 pub mod First

@@ -2,6 +2,7 @@
 use Rattle.std.specs.Prelude.{◌≡◌, ℕ, List, []}
 use Rattle.scr_spec.specs.Data.{Data}
 use Rattle.scr_spec.specs.Sound.{IsSound}
+use Rattle.scr_types.specs.Texts.{Spells}
 use Rattle.scr_depend.specs.declared.order.Order.{Order}
 use Rattle.scr_depend.specs.Meets.{AreRight}
 use Rattle.scr_job.specs.declared.status.Status.{Status}
@@ -9,6 +10,7 @@ use Rattle.scr_job.specs.declared.status.Status.TheVariants.{Done}
 use Rattle.scr_job.specs.Ends.{IsFront}
 use Rattle.scr_checking.specs.Reports.{ChecksText, passed_text}
 use Rattle.scr_checking.specs.Checking.{Passes}
+use Rattle.scr_checking.specs.Tells.{TellsRight}
 
 pub record OneChecking : Type 0 where
   -- a text has one report, and never none
@@ -21,3 +23,5 @@ pub record OneChecking : Type 0 where
   pub one_spec : (limit : ℕ) (text : List ℕ) (a b : Data) (o p : Order) → Passes limit text a o → Passes limit text b p → a ≡ b
   pub sound : (limit : ℕ) (text : List ℕ) (spec : Data) (order : Order) → Passes limit text spec order → IsSound spec
   pub right : (limit : ℕ) (text : List ℕ) (spec : Data) (order : Order) → Passes limit text spec order → AreRight spec
+  -- each line of a report on the specification that the text spells is right
+  pub tells : (limit : ℕ) (text bytes : List ℕ) (status : Status) (spec : Data) → Spells text spec → ChecksText limit text bytes status → TellsRight spec bytes status

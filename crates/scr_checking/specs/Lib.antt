@@ -1,4 +1,5 @@
 pub mod Spelling
 pub mod Reports
 pub mod Checking
+pub mod Tells
 pub mod Laws

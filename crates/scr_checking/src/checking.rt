@@ -10,6 +10,7 @@ ghost use Rattle.scr_job.specs.Load.{IsLoaded};
 ghost use Rattle.scr_checking.specs.Reports.{passed_text};
 ghost use Rattle.scr_checking.specs.Spelling.{IsSpelling};
 ghost use Rattle.scr_checking.specs.Checking.{IsChecking, IsSpecChecking, IsFinal};
+ghost use Rattle.dd_store.specs.declared.store.TheConstants.{NODE_LIMIT};
 
 use crate::spelling::{Spelling, spell_file, spell_text};
 use crate::verdicts::{push_lines, push_yes_lines, verdicts_status};
@@ -61,7 +62,7 @@ fn found(
 
 /// Checks a specification.
 fn check_spec(alloc: Global, spec: Spec, limit: u32) -> Result<Checking, NoMemory>
-    requires { limit ≤ 40000 }
+    requires { limit ≤ NODE_LIMIT }
     ensures exact { IfOk result (IsSpecChecking limit (data_of spec)) }
     ensures ending { IfOk result IsFinal }
 {
@@ -74,7 +75,7 @@ fn check_spec(alloc: Global, spec: Spec, limit: u32) -> Result<Checking, NoMemor
 
 /// Checks what a text spells.
 fn check_spelling(alloc: Global, spelling: Spelling, limit: u32) -> Result<Checking, NoMemory>
-    requires { limit ≤ 40000 }
+    requires { limit ≤ NODE_LIMIT }
     ensures exact { (text : List ℕ) → IsSpelling text spelling → IfOk result (IsChecking limit text) }
     ensures ending { IfOk result IsFinal }
 {
@@ -86,7 +87,7 @@ fn check_spelling(alloc: Global, spelling: Spelling, limit: u32) -> Result<Check
 
 /// Checks a text, with the limit on the distinct splits of each table.
 pub fn check_text(alloc: Global, text: &[u8], limit: u32) -> Result<Checking, NoMemory>
-    requires { limit ≤ 40000 }
+    requires { limit ≤ NODE_LIMIT }
     ensures exact { IfOk result (IsChecking limit text.now) }
     ensures ending { IfOk result IsFinal }
 {
@@ -96,7 +97,7 @@ pub fn check_text(alloc: Global, text: &[u8], limit: u32) -> Result<Checking, No
 
 /// Checks the text of a file that was read with the limit of texts. One above it is refused.
 pub fn check_file(alloc: Global, file: &Loaded, limit: u32) -> Result<Checking, NoMemory>
-    requires { limit ≤ 40000 }
+    requires { limit ≤ NODE_LIMIT }
     ensures exact { IfOk result (λ c. (text : List ℕ) → IsLoaded TEXT_LIMIT (Some text) file.now → IsChecking limit text c) }
     ensures ending { IfOk result IsFinal }
 {

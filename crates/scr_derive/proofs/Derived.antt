@@ -16,7 +16,7 @@ use Rattle.scr_depend.specs.declared.checked.Checked.{Checked}
 use Rattle.scr_depend.specs.Dependencies.{graph_of}
 use Rattle.scr_depend.specs.Orders.{IsOrder}
 use Rattle.scr_depend.proofs.Dependent.{one_order}
-use Rattle.scr_next.specs.Laws.{PassesChecks}
+use Rattle.scr_depend.specs.Passes.{PassesChecks}
 use Rattle.scr_next.specs.Runs.{IsRun}
 use Rattle.scr_invariants.specs.declared.derived.Derived.{Derived}
 use Rattle.scr_invariants.specs.declared.derived.Derived.TheVariants as derived
@@ -34,17 +34,12 @@ use Rattle.scr_job.proofs.EndsLemmas.{by_file_once, by_file_some}
 use Rattle.scr_checking.specs.declared.checking.Checking.TheVariants.{Passed}
 use Rattle.scr_checking.specs.Reports.{ChecksText, passed_text}
 use Rattle.scr_checking.specs.Checking.{Passes, EndsCommand, IsChecking, finished, passed}
-use Rattle.scr_checking.proofs.Checks.{one_checking}
+use Rattle.scr_checking.proofs.Checks.{one_checking, passes_checks}
 use Rattle.scr_checking.proofs.First.{first_once, first_some}
 use Rattle.scr_derive.specs.declared.derivation.Derivation.{Derivation}
 use Rattle.scr_derive.specs.Texts.{classes_text}
 use Rattle.scr_derive.specs.Derives.{classes_of, HaveDerived, status_of, Derives, DerivesText, DerivesFile}
 use Rattle.scr_derive.specs.Laws.{HoldThroughout, PrintsWhatHolds, OneDerivation}
-
--- what passes has all that a `Checked` keeps
-passes_checks : (limit : ℕ) (text : List ℕ) (spec : Data) (order : Order) → Passes limit text spec order → PassesChecks spec order
-passes_checks limit text spec order p =
-    record { sound = one_checking.sound limit text spec order p; ordered = p.passed.ordered; right = ∣ one_checking.right limit text spec order p ∣₁ }
 
 -- ---- one answer
 

@@ -5,6 +5,7 @@ ghost use Rattle.scr_spec.specs.Shown.{data_of};
 ghost use Rattle.scr_spec.specs.Tables.{is_class_at};
 ghost use Rattle.scr_job.specs.Ends.{is_own};
 ghost use Rattle.scr_derive.specs.Derives.{classes_of, HaveDerived, is_undecided, status_of, Derives};
+ghost use Rattle.dd_store.specs.declared.store.TheConstants.{NODE_LIMIT};
 
 use crate::derivation::Derivation;
 use crate::text::push_classes;
@@ -38,7 +39,7 @@ fn derive_each(
     limit: u32,
     classes: &[usize],
 ) -> Result<Items<Derivation>, NoMemory>
-    requires limit { limit ≤ 40000 }
+    requires limit { limit ≤ NODE_LIMIT }
     requires classes { IsTrue (list_all (is_class_at (data_of checked.now.spec)) classes.now) }
     ensures { IfOk result (HaveDerived (data_of checked.now.spec) checked.now.order.list limit classes.now) }
 {
@@ -83,7 +84,7 @@ pub(crate) fn derive_all(
     checked: &Checked,
     limit: u32,
 ) -> Result<(Vec<u8>, Status), NoMemory>
-    requires { limit ≤ 40000 }
+    requires { limit ≤ NODE_LIMIT }
     ensures exact { IfOk result (λ r. Derives limit (data_of checked.now.spec) r.0.items r.1) }
     ensures status { IfOk result (λ r. IsTrue (is_own r.1)) }
 {

@@ -1,5 +1,6 @@
 //! What `invariants` answers for a file.
 ghost use Rattle.std.specs.Prelude.{◌≤◌};
+ghost use Rattle.dd_store.specs.declared.store.TheConstants.{NODE_LIMIT};
 
 use crate::classes::derive_all;
 use scr_checking::{Checking, check_file};
@@ -12,7 +13,7 @@ use std::alloc::Global;
 #[derive(Drop)]
 pub struct Invariants {
     pub nodes: u32,
-    pub ghost limited: { nodes ≤ 40000 },
+    pub ghost limited: { nodes ≤ NODE_LIMIT },
 }
 
 impl Job for Invariants {

@@ -8,7 +8,7 @@ use Rattle.scr_reader.specs.declared.text.TheConstants.{TEXT_LIMIT}
 use Rattle.scr_depend.specs.declared.checked.Checked.{Checked}
 use Rattle.scr_depend.specs.declared.order.Order.{Order}
 use Rattle.scr_depend.proofs.Dependent.{one_order}
-use Rattle.scr_next.specs.Laws.{PassesChecks}
+use Rattle.scr_depend.specs.Passes.{PassesChecks}
 use Rattle.scr_next.proofs.Runs.{one_next_state}
 use Rattle.c_writer.specs.Units.{unit_of}
 use Rattle.c_writer.proofs.UnitRuns.{unit_right}
@@ -26,15 +26,10 @@ use Rattle.scr_job.proofs.EndsLemmas.{by_file_once, by_file_some}
 use Rattle.scr_checking.specs.declared.checking.Checking.TheVariants.{Passed}
 use Rattle.scr_checking.specs.Reports.{ChecksText}
 use Rattle.scr_checking.specs.Checking.{Passes, EndsCommand, IsChecking, finished, passed}
-use Rattle.scr_checking.proofs.Checks.{one_checking}
+use Rattle.scr_checking.proofs.Checks.{passes_checks}
 use Rattle.scr_checking.proofs.First.{first_once, first_some}
 use Rattle.scr_emit.specs.Emits.{IsUnitText, EmitsUnit, EmitsText, Emits, IsRightText}
 use Rattle.scr_emit.specs.Laws.{OneEmission}
-
--- what passes has all that a `Checked` keeps
-passes_checks : (limit : ℕ) (text : List ℕ) (spec : Data) (order : Order) → Passes limit text spec order → PassesChecks spec order
-passes_checks limit text spec order p =
-    record { sound = one_checking.sound limit text spec order p; ordered = p.passed.ordered; right = ∣ one_checking.right limit text spec order p ∣₁ }
 
 -- ---- of a file
 

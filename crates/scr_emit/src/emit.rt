@@ -2,6 +2,7 @@
 ghost use Rattle.std.specs.Prelude.{◌≤◌, IfOk};
 ghost use Rattle.scr_spec.specs.Shown.{data_of};
 ghost use Rattle.scr_emit.specs.Emits.{IsUnitText};
+ghost use Rattle.dd_store.specs.declared.store.TheConstants.{NODE_LIMIT};
 
 use c_print::print_c;
 use c_writer::unit_of;
@@ -17,7 +18,7 @@ use std::alloc::Global;
 #[derive(Drop)]
 pub struct Emit {
     pub nodes: u32,
-    pub ghost limited: { nodes ≤ 40000 },
+    pub ghost limited: { nodes ≤ NODE_LIMIT },
 }
 
 /// The text of the unit of a specification that passed its checks.

@@ -7,7 +7,7 @@ use Rattle.scr_reader.specs.declared.text.TheConstants.{TEXT_LIMIT}
 use Rattle.scr_depend.specs.declared.checked.Checked.{Checked}
 use Rattle.scr_depend.specs.declared.order.Order.{Order}
 use Rattle.scr_next.specs.Runs.{IsInitial}
-use Rattle.scr_next.specs.Laws.{PassesChecks}
+use Rattle.scr_depend.specs.Passes.{PassesChecks}
 use Rattle.scr_next.proofs.Runs.{one_next_state}
 use Rattle.scr_job.specs.declared.status.Status.{Status}
 use Rattle.scr_job.specs.declared.status.Status.TheVariants.{ReadFault}
@@ -22,18 +22,13 @@ use Rattle.scr_job.proofs.WalkLemmas.{front_of}
 use Rattle.scr_checking.specs.declared.checking.Checking.TheVariants.{Passed}
 use Rattle.scr_checking.specs.Reports.{ChecksText}
 use Rattle.scr_checking.specs.Checking.{Passes, EndsCommand, IsChecking, ChecksFirst, finished, passed}
-use Rattle.scr_checking.proofs.Checks.{one_checking}
+use Rattle.scr_checking.proofs.Checks.{passes_checks}
 use Rattle.scr_checking.proofs.First.{first_once, first_some}
 use Rattle.scr_report.specs.Runs.{state_text}
 use Rattle.scr_simulate.specs.Simulates.{Simulates, SimulatesFile, SimulateAnswers, ReachesScript}
 use Rattle.scr_simulate.specs.Laws.{OneSimulation}
 use Rattle.scr_simulate.proofs.Existence.{some_answer}
 use Rattle.scr_simulate.proofs.Once.{once}
-
--- what passes has all that a `Checked` keeps
-passes_checks : (limit : ℕ) (text : List ℕ) (spec : Data) (order : Order) → Passes limit text spec order → PassesChecks spec order
-passes_checks limit text spec order p =
-    record { sound = one_checking.sound limit text spec order p; ordered = p.passed.ordered; right = ∣ one_checking.right limit text spec order p ∣₁ }
 
 -- ---- by the script
 

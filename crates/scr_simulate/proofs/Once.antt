@@ -6,7 +6,7 @@ use Rattle.scr_spec.specs.declared.state.Input.{Input}
 use Rattle.scr_spec.specs.Meaning.{Codes}
 use Rattle.scr_depend.specs.declared.order.Order.{Order}
 use Rattle.scr_next.specs.Runs.{IsConsistent, IsStep}
-use Rattle.scr_next.specs.Laws.{PassesChecks}
+use Rattle.scr_depend.specs.Passes.{PassesChecks}
 use Rattle.scr_next.proofs.Runs.{one_next_state}
 use Rattle.scr_simulator.specs.declared.fault.ScriptFault.{ScriptFault}
 use Rattle.scr_job.specs.declared.status.Status.{Status}

@@ -4,7 +4,7 @@ use Rattle.scr_spec.specs.Data.{Data}
 use Rattle.scr_spec.specs.Meaning.{Codes}
 use Rattle.scr_depend.specs.declared.order.Order.{Order}
 use Rattle.scr_next.specs.Runs.{IsConsistent}
-use Rattle.scr_next.specs.Laws.{PassesChecks}
+use Rattle.scr_depend.specs.Passes.{PassesChecks}
 use Rattle.scr_job.specs.declared.status.Status.{Status}
 use Rattle.scr_job.specs.Ends.{IsFront, HasFront}
 use Rattle.scr_job.specs.Session.{IsAnswered}

@@ -1,5 +1,6 @@
 //! The command `simulate`: the initial state, and the state after each input of a script.
 ghost use Rattle.std.specs.Prelude.{◌≤◌};
+ghost use Rattle.dd_store.specs.declared.store.TheConstants.{NODE_LIMIT};
 
 use crate::simulation::Simulation;
 use scr_checking::{Checking, check_file};
@@ -14,7 +15,7 @@ use std::alloc::Global;
 #[derive(Drop)]
 pub struct Simulate {
     pub nodes: u32,
-    pub ghost limited: { nodes ≤ 40000 },
+    pub ghost limited: { nodes ≤ NODE_LIMIT },
 }
 
 impl Command for Simulate {

@@ -36,7 +36,8 @@ impl<'a> Simulation<'a> {
     }
 }
 
-fn kind_of(fault: ScriptFault) -> ScriptKind
+/// The kind that is printed of a fault.
+pub fn kind_of(fault: ScriptFault) -> ScriptKind
     ensures { result ≡ kind_of fault }
 {
     match fault {
