@@ -2,3 +2,4 @@ pub mod Numbers
 pub mod Checked
 pub mod OneAnswer
 pub mod Printed
+pub mod Endings

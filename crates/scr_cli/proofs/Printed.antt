@@ -1,13 +1,15 @@
--- What `invariants` prints holds.
+-- What is printed is so.
 use Rattle.std.proofs.Common.{◌≡◌, ℕ, List, Some, subst}
 use Rattle.scr_job.specs.declared.status.Status.{Status}
 use Rattle.scr_job.specs.Ends.{Files}
+use Rattle.scr_checking.specs.Reports.{ChecksText}
+use Rattle.scr_checking.proofs.Checks.{one_checking}
 use Rattle.scr_derive.specs.Derives.{DerivesText, DerivesFile}
 use Rattle.scr_derive.proofs.Derived.{one_derivation}
-use Rattle.scr_cli.specs.declared.form.Form.TheVariants.{Invariants}
+use Rattle.scr_cli.specs.declared.form.Form.TheVariants.{Check, Invariants}
 use Rattle.scr_cli.specs.Form.{form_of}
-use Rattle.scr_cli.specs.Answers.{word_at, work_of, WorkAnswers, Answers}
-use Rattle.scr_cli.specs.Holds.{PrintedHold}
+use Rattle.scr_cli.specs.Answers.{word_at, work_of, WorkAnswers, Answers, Checks}
+use Rattle.scr_cli.specs.Holds.{PrintedRight, PrintedHold}
 
 -- such an answer is what is derived for the text
 derives : (words : List (List ℕ)) (files : Files) (limit : ℕ) (text bytes : List ℕ) (status : Status) → form_of words ≡ Some (Invariants limit)
@@ -15,6 +17,19 @@ derives : (words : List (List ℕ)) (files : Files) (limit : ℕ) (text bytes : 
 derives words files limit text bytes status form there answer =
     let held : DerivesFile limit (files (word_at 1 words)) bytes status = subst (λ f. WorkAnswers (work_of f) words files bytes status) form answer in
     subst (λ h. DerivesFile limit h bytes status) there held
+
+checks : (words : List (List ℕ)) (files : Files) (limit : ℕ) (text bytes : List ℕ) (status : Status) → form_of words ≡ Some (Check limit)
+    → files (word_at 1 words) ≡ Some text → Answers words files bytes status → ChecksText limit text bytes status
+checks words files limit text bytes status form there answer =
+    let held : Checks limit (files (word_at 1 words)) bytes status = subst (λ f. WorkAnswers (work_of f) words files bytes status) form answer in
+    subst (λ h. Checks limit h bytes status) there held
+
+pub printed_right : PrintedRight
+printed_right = record {
+  tells = λ words files limit text bytes status spec form there spelled answer. one_checking.tells limit text bytes status spec spelled (checks words files limit text bytes status form there answer);
+  spells = λ words files limit text bytes form there answer. one_checking.passes limit text bytes (checks words files limit text bytes _ form there answer);
+  right = λ limit text spec order p. (one_checking.sound limit text spec order p, p.passed.ordered.ordered, one_checking.right limit text spec order p);
+}
 
 pub printed_hold : PrintedHold
 printed_hold = record {

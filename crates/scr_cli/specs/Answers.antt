@@ -2,7 +2,7 @@
 use Rattle.std.specs.Prelude.{◌≡◌, ⊤, ℕ, Bool, true, false, List, [], Option, None, Some, codes, slice_index_or, IfSome, IsSome}
 use Rattle.scr_io.specs.Outside.{Contents, Holds}
 use Rattle.scr_job.specs.declared.status.Status.{Status}
-use Rattle.scr_job.specs.declared.status.Status.TheVariants.{Usage}
+use Rattle.scr_job.specs.declared.status.Status.TheVariants.{Usage, Done}
 use Rattle.scr_job.specs.Ends.{Files, Answer, ByFile, IsFront}
 use Rattle.scr_checking.specs.Reports.{ChecksText}
 use Rattle.scr_simulate.specs.Simulates.{SimulateAnswers, ReachesScript}
@@ -10,8 +10,10 @@ use Rattle.scr_derive.specs.Derives.{DerivesFile}
 use Rattle.scr_emit.specs.Emits.{Emits}
 use Rattle.scr_format.specs.Formats.{Formats}
 use Rattle.scr_runc.specs.Runs.{RunCAnswers, ReachesCalls}
+use Rattle.scr_generate.specs.Chain.{chain_text}
+use Rattle.scr_large.specs.Summaries.{LargeAnswers}
 use Rattle.scr_cli.specs.declared.form.Form.{Form}
-use Rattle.scr_cli.specs.declared.form.Form.TheVariants.{Check, Simulate, Invariants, Emit, Format, RunC}
+use Rattle.scr_cli.specs.declared.form.Form.TheVariants.{Check, Simulate, Invariants, Emit, Format, RunC, Generate, Large}
 use Rattle.scr_cli.specs.Form.{form_of}
 
 -- ---- the commands
@@ -26,6 +28,10 @@ IsUsage bytes status = (bytes ≡ usage_text) × (status ≡ Usage)
 -- of `check`
 abbrev pub Checks : ℕ → Option (List ℕ) → List ℕ → Status → Type 0
 Checks limit = ByFile (ChecksText limit)
+
+-- of `generate`: the text of the chain
+abbrev pub Generates : ℕ → List ℕ → Status → Type 0
+Generates last bytes status = (bytes ≡ chain_text last) × (status ≡ Done)
 
 -- ---- the shapes of work
 
@@ -47,6 +53,8 @@ work_of (Some (Invariants limit)) = by_one (DerivesFile limit)
 work_of (Some (Emit limit)) = by_one (Emits limit)
 work_of (Some Format) = by_one Formats
 work_of (Some RunC) = by_lines RunCAnswers ReachesCalls
+work_of (Some (Generate last)) = at_once (Generates last)
+work_of (Some (Large last)) = at_once (LargeAnswers last)
 
 -- the word at a place
 abbrev pub word_at : ℕ → List (List ℕ) → List ℕ
@@ -64,6 +72,12 @@ HoldsFiles contents (at_once answers) words = ⊤
 HoldsFiles contents (by_one answers) words = Holds contents (word_at 1 words)
 HoldsFiles contents (by_lines answers reaches) words =
     Holds contents (word_at 1 words) × IfSome contents (λ files. reaches (files (word_at 1 words)) → IsSome (files (word_at 2 words)))
+
+-- what is told of the files that the work reads: of work that reads none, all there is to tell
+abbrev pub told_for : Work → Contents → Option Files
+told_for (at_once answers) contents = Some (λ name. None)
+told_for (by_one answers) contents = contents
+told_for (by_lines answers reaches) contents = contents
 
 -- the work begins no file
 abbrev pub begins_none : Work → Bool

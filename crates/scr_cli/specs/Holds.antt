@@ -1,16 +1,31 @@
--- What `invariants` prints holds.
+-- What is printed is so.
 use Rattle.std.specs.Prelude.{◌≡◌, ℕ, List, Some}
 use Rattle.scr_spec.specs.Data.{Data}
+use Rattle.scr_spec.specs.Sound.{IsSound}
 use Rattle.scr_types.specs.Texts.{Spells}
 use Rattle.scr_depend.specs.declared.order.Order.{Order}
+use Rattle.scr_depend.specs.Dependencies.{graph_of}
+use Rattle.scr_depend.specs.Orders.{IsOrder}
+use Rattle.scr_depend.specs.Meets.{AreRight}
 use Rattle.scr_job.specs.declared.status.Status.{Status}
 use Rattle.scr_job.specs.declared.status.Status.TheVariants.{Done}
 use Rattle.scr_job.specs.Ends.{Files}
 use Rattle.scr_checking.specs.Checking.{Passes}
+use Rattle.scr_checking.specs.Tells.{TellsRight}
 use Rattle.scr_derive.specs.Laws.{PrintsWhatHolds}
-use Rattle.scr_cli.specs.declared.form.Form.TheVariants.{Invariants}
+use Rattle.scr_cli.specs.declared.form.Form.TheVariants.{Check, Invariants}
 use Rattle.scr_cli.specs.Form.{form_of}
 use Rattle.scr_cli.specs.Answers.{word_at, Answers}
+
+-- an answer to the words of `check` on a text that spells a specification: the order and a line on each table, each of which
+-- is right, or the cycle; with `Done` the text spells one that keeps all rules, and each of whose tables is disjoint, covering
+-- where that is required, and in range
+pub record PrintedRight : Type 0 where
+  pub tells : (words : List (List ℕ)) (files : Files) (limit : ℕ) (text bytes : List ℕ) (status : Status) (spec : Data) → form_of words ≡ Some (Check limit)
+      → files (word_at 1 words) ≡ Some text → Spells text spec → Answers words files bytes status → TellsRight spec bytes status
+  pub spells : (words : List (List ℕ)) (files : Files) (limit : ℕ) (text bytes : List ℕ) → form_of words ≡ Some (Check limit)
+      → files (word_at 1 words) ≡ Some text → Answers words files bytes Done → (spec : Data) × (order : Order) × Passes limit text spec order
+  pub right : (limit : ℕ) (text : List ℕ) (spec : Data) (order : Order) → Passes limit text spec order → IsSound spec × IsOrder (graph_of spec) order.list × AreRight spec
 
 -- an answer to the words of `invariants` on a text that passes its checks, whether or not a class is undecided: each
 -- candidate that it tells as found holds in every state of every run; so it is of each answer with `Done`

@@ -1,5 +1,6 @@
 //! The command `check`: the order and the verdict on each table of a specification, or its cycle.
 ghost use Rattle.std.specs.Prelude.{◌≤◌};
+ghost use Rattle.dd_store.specs.declared.store.TheConstants.{NODE_LIMIT};
 
 use scr_checking::{Checking, check_file, passed_report};
 use scr_job::{Job, Loaded, Status};
@@ -11,7 +12,7 @@ use std::alloc::Global;
 #[derive(Drop)]
 pub(crate) struct Check {
     pub(crate) nodes: u32,
-    ghost limited: { nodes ≤ 40000 },
+    ghost limited: { nodes ≤ NODE_LIMIT },
 }
 
 impl Job for Check {

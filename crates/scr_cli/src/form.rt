@@ -1,12 +1,13 @@
 //! The forms of the words.
-ghost use Rattle.std.specs.Prelude.{◌≡◌, ◌<◌, decimal, map, length, string_bytes, IfSome};
+ghost use Rattle.std.specs.Prelude.{◌≡◌, ◌≤◌, ◌<◌, ◌^◌, decimal, map, length, string_bytes, IfSome, IsSome};
 ghost use Rattle.std.specs.Str.{bytes_eq};
+ghost use Rattle.dd_store.specs.declared.store.TheConstants.{NODE_LIMIT};
+ghost use Rattle.scr_generate.specs.declared.chain.TheConstants.{LAST_LATCH};
 ghost use Rattle.scr_cli.specs.Form as spec;
 
+use dd_store::NODE_LIMIT;
 use itoa::Buffer;
-
-/// The limit that stands where no word gives one, and the greatest that a word can give.
-const NODE_LIMIT: u32 = 40_000;
+use scr_generate::LAST_LATCH;
 
 /// A form of words: the command, and what its words are. Its file names stand at fixed places.
 #[derive(Clone, Copy, Debug, PartialEq, Eq)]
@@ -23,6 +24,10 @@ pub enum Form {
     Format,
     /// `runc C S`.
     RunC,
+    /// `generate N`, with the number of the last latch.
+    Generate { last: u32 },
+    /// `large N`, likewise.
+    Large { last: u32 },
 }
 
 /// Whether a word is the decimal text of the number, which has no sign and no leading zero.
@@ -32,12 +37,13 @@ fn is_decimal(number: u32, word: &str) -> bool
     Buffer::new().format(number) == word
 }
 
-/// The limit that a word gives.
-fn limit_of_word(word: &str) -> Option<u32>
-    ensures { result ≡ spec.number_within spec.greatest_limit word.now }
+/// The number in the range that a word gives.
+fn number_in(least: u32, greatest: u32, word: &str) -> Option<u32>
+    ensures exact { result ≡ spec.number_in least greatest word.now }
+    ensures small { IfSome result (λ n. n ≤ greatest) }
 {
     let number = word.parse::<u32>().ok()?;
-    if 0 < number && number <= NODE_LIMIT && is_decimal(number, word) {
+    if least <= number && number <= greatest && is_decimal(number, word) {
         Some(number)
     } else {
         None
@@ -46,73 +52,33 @@ fn limit_of_word(word: &str) -> Option<u32>
 
 /// The limit by the words behind the names.
 fn limit_of(words: &[String]) -> Option<u32>
-    ensures { result ≡ spec.limit_of (map string_bytes words.now) }
+    ensures exact { result ≡ spec.limit_of (map string_bytes words.now) }
+    ensures small { IfSome result (λ n. n ≤ NODE_LIMIT) }
 {
     match words {
         [] => Some(NODE_LIMIT),
-        [word] => limit_of_word(word.as_str()),
+        [word] => number_in(1, NODE_LIMIT, word.as_str()),
         _ => None,
     }
 }
 
-/// The limit by the words behind a command that names one file.
-fn limit_behind_one(words: &[String]) -> Option<u32>
-    ensures { result ≡ spec.limit_behind_one (map string_bytes words.now) }
+/// The limit by the words behind the names of so many files.
+#[tactic(auto, using(crate::proofs::Numbers::limit_missing, crate::proofs::Numbers::limit_there))]
+fn limit_behind(files: usize, words: &[String]) -> Option<u32>
+    ensures exact { result ≡ spec.limit_behind files (map string_bytes words.now) }
+    ensures there { IsSome result → files ≤ length words.now }
+    ensures small { IfSome result (λ n. n ≤ NODE_LIMIT) }
 {
-    let (_, rest) = words.split_first()?;
-    limit_of(rest)
+    limit_of(words.get(files..)?)
 }
 
-/// The form of the words behind `check`.
-fn check_form(words: &[String]) -> Option<Form>
-    ensures { result ≡ spec.check_form (map string_bytes words.now) }
-{
-    let limit = limit_behind_one(words)?;
-    Some(Form::Check { limit })
-}
-
-/// The form of the words behind `invariants`.
-fn invariants_form(words: &[String]) -> Option<Form>
-    ensures { result ≡ spec.invariants_form (map string_bytes words.now) }
-{
-    let limit = limit_behind_one(words)?;
-    Some(Form::Invariants { limit })
-}
-
-/// The form of the words behind `emit`.
-fn emit_form(words: &[String]) -> Option<Form>
-    ensures { result ≡ spec.emit_form (map string_bytes words.now) }
-{
-    let limit = limit_behind_one(words)?;
-    Some(Form::Emit { limit })
-}
-
-/// The form of the words behind `simulate`.
-fn simulate_form(words: &[String]) -> Option<Form>
-    ensures { result ≡ spec.simulate_form (map string_bytes words.now) }
-{
-    let (_, rest) = words.split_first()?;
-    let (_, rest) = rest.split_first()?;
-    let limit = limit_of(rest)?;
-    Some(Form::Simulate { limit })
-}
-
-/// The form of the words behind `format`.
-fn format_form(words: &[String]) -> Option<Form>
-    ensures { result ≡ spec.format_form (map string_bytes words.now) }
+/// The number of the last latch by the only word.
+fn last_latch(words: &[String]) -> Option<u32>
+    ensures exact { result ≡ spec.last_latch (map string_bytes words.now) }
+    ensures small { IfSome result (λ n. n ≤ LAST_LATCH) }
 {
     match words {
-        [_] => Some(Form::Format),
-        _ => None,
-    }
-}
-
-/// The form of the words behind `runc`.
-fn runc_form(words: &[String]) -> Option<Form>
-    ensures { result ≡ spec.runc_form (map string_bytes words.now) }
-{
-    match words {
-        [_, _] => Some(Form::RunC),
+        [word] => number_in(0, LAST_LATCH, word.as_str()),
         _ => None,
     }
 }
@@ -124,19 +90,27 @@ pub(crate) fn parse(words: &[String]) -> Option<Form>
     ensures limited { IfSome result spec.IsLimited }
 {
     let (verb, rest) = words.split_first()?;
-    if verb.as_str() == "check" {
-        check_form(rest)
-    } else if verb.as_str() == "simulate" {
-        simulate_form(rest)
-    } else if verb.as_str() == "invariants" {
-        invariants_form(rest)
-    } else if verb.as_str() == "emit" {
-        emit_form(rest)
-    } else if verb.as_str() == "format" {
-        format_form(rest)
-    } else if verb.as_str() == "runc" {
-        runc_form(rest)
-    } else {
-        None
+    match verb.as_str() {
+        "check" => Some(Form::Check {
+            limit: limit_behind(1, rest)?,
+        }),
+        "simulate" => Some(Form::Simulate {
+            limit: limit_behind(2, rest)?,
+        }),
+        "invariants" => Some(Form::Invariants {
+            limit: limit_behind(1, rest)?,
+        }),
+        "emit" => Some(Form::Emit {
+            limit: limit_behind(1, rest)?,
+        }),
+        "format" if rest.len() == 1 => Some(Form::Format),
+        "runc" if rest.len() == 2 => Some(Form::RunC),
+        "generate" => Some(Form::Generate {
+            last: last_latch(rest)?,
+        }),
+        "large" => Some(Form::Large {
+            last: last_latch(rest)?,
+        }),
+        _ => None,
     }
 }

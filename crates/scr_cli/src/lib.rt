@@ -3,8 +3,9 @@
 
 mod check;
 mod form;
+mod generate;
 mod top;
 
 pub use form::Form;
 pub use scr_job::Status;
-pub use top::{one_answer, printed_hold, run};
+pub use top::{one_answer, printed_hold, printed_right, run};

@@ -1,28 +1,28 @@
 //! The top call: what the words ask for, and how it ended.
-ghost use Rattle.std.specs.Prelude.{◌≡◌, ◌≢◌, ◌⊎◌, None, IfOk, IfErr, IsErrOf, IsTrue, map, string_bytes};
+ghost use Rattle.std.specs.Prelude.{◌≡◌, ◌≢◌, ◌⊎◌, None, IfOk, IfErr, IsErrOf, IsTrue, MatchResult, map, string_bytes};
 ghost use Rattle.scr_io.specs.Outside.{HasRisen};
-ghost use Rattle.scr_job.specs.Ends.{Answered, Stopped, Ended, is_own};
+ghost use Rattle.scr_job.specs.Ends.{Answered, Stopped, Wrote, IsCut, Ended, is_own};
 ghost use Rattle.scr_cli.specs.Form.{form_of};
-ghost use Rattle.scr_cli.specs.Holds.{PrintedHold};
-ghost use Rattle.scr_cli.specs.Answers.{Answers, OneAnswer, IsUsage, HoldsFiles, begins_none, reads_first, work_of};
+ghost use Rattle.scr_cli.specs.Holds.{PrintedRight, PrintedHold};
+ghost use Rattle.scr_cli.specs.Answers.{Answers, OneAnswer, IsUsage, HoldsFiles, begins_none, reads_first, told_for, work_of};
 
 use crate::check::Check;
 use crate::form::{Form, parse};
+use crate::generate::Generate;
 use scr_derive::Invariants;
 use scr_emit::Emit;
 use scr_format::Format;
 use scr_io::{Shelf, Sink};
-use scr_job::{Status, Stop, put, respond, respond_by_lines};
+use scr_job::{Status, Stop, put, respond, respond_by_lines, respond_fileless};
+use scr_large::Large;
 use scr_runc::RunC;
 use scr_simulate::Simulate;
 use std::alloc::Global;
 
-/// Writes the usage line, for words that have no form. No file is begun.
-fn usage<S: Shelf, K: Sink>(shelf: &S, out: &mut K) -> Result<Status, Stop>
-    ensures answered { IfOk result (Answered (S.contents shelf.now) (K.written out.old) (K.written out.new)
-        (λ _. IsUsage)) }
-    ensures stopped { IfErr result (Stopped (S.contents shelf.now) (K.written out.old) (K.written out.new)
-        (λ _. IsUsage)) }
+/// Writes the usage line, for words that have no form.
+fn usage<K: Sink>(out: &mut K) -> Result<Status, Stop>
+    ensures answered { IfOk result (Wrote IsUsage (K.written out.old) (K.written out.new)) }
+    ensures stopped { IfErr result (IsCut IsUsage (K.written out.old) (K.written out.new)) }
     ensures status { IfOk result (λ status. status ≡ Status.Usage) }
     ensures only { IfErr result (λ stop. stop ≡ Stop.Write) }
     ensures write_cause { IsErrOf result Stop.Write → HasRisen (K.faults out.old) (K.faults out.new) }
@@ -41,12 +41,14 @@ fn dispatch<S: Shelf, K: Sink>(
     shelf: &mut S,
     out: &mut K,
 ) -> Result<Status, Stop>
-    ensures answered { IfOk result (Answered (S.contents shelf.old) (K.written out.old) (K.written out.new)
-        (Answers (map string_bytes words.now))) }
-    ensures stopped { IfErr result (Stopped (S.contents shelf.old) (K.written out.old) (K.written out.new)
-        (Answers (map string_bytes words.now))) }
+    ensures answered { IfOk result (Answered (told_for (work_of (form_of (map string_bytes words.now))) (S.contents shelf.old))
+        (K.written out.old) (K.written out.new) (Answers (map string_bytes words.now))) }
+    ensures stopped { IfErr result (Stopped (told_for (work_of (form_of (map string_bytes words.now))) (S.contents shelf.old))
+        (K.written out.old) (K.written out.new) (Answers (map string_bytes words.now))) }
     ensures status { IfOk result (λ status. IsTrue (is_own status)
         ⊎ ((status ≡ Status.Usage) × (form_of (map string_bytes words.now) ≡ None))) }
+    ensures no_form { form_of (map string_bytes words.now) ≡ None
+        → MatchResult result (λ status. status ≡ Status.Usage) (λ stop. stop ≡ Stop.Write) }
     ensures nothing { IsTrue (reads_first (work_of (form_of (map string_bytes words.now))))
         → IsErrOf result Stop.Read → K.written out.new ≡ K.written out.old }
     ensures read_cause { IsErrOf result Stop.Read → HasRisen (S.faults shelf.old) (S.faults shelf.new) }
@@ -60,7 +62,7 @@ fn dispatch<S: Shelf, K: Sink>(
         → ¬ IsErrOf result Stop.Read }
 {
     match parse(words) {
-        None => usage(shelf, out),
+        None => usage(out),
         Some(Form::Check { limit }) => {
             let job = Check { nodes: limit };
             respond(&job, alloc, words[1].as_str(), shelf, out)
@@ -93,6 +95,8 @@ fn dispatch<S: Shelf, K: Sink>(
             shelf,
             out,
         ),
+        Some(Form::Generate { last }) => respond_fileless(&Generate { last }, alloc, out),
+        Some(Form::Large { last }) => respond_fileless(&Large { last }, alloc, out),
     }
 }
 
@@ -101,11 +105,13 @@ fn dispatch<S: Shelf, K: Sink>(
 ///
 /// - `ended`: where the shelf tells its contents and the sink its bytes, this call appended exactly
 ///   an answer that is defined for these words and contents, and the status is that answer's. With
-///   a fault it appended the front of such an answer, with `WriteFault` not all of it.
+///   a fault it appended the front of such an answer, with `WriteFault` not all of it. For words that
+///   begin no file it is so on every shelf.
 /// - `nothing`: with `ReadFault`, words whose file is read whole before a byte is written have
 ///   appended nothing.
 /// - `read_cause`, `write_cause`: a fault comes only where the shelf, or the sink, failed in this call.
-/// - `usage`: `Usage` comes only from words that have no form.
+/// - `usage`, `no_form`: `Usage` comes only from words that have no form, and these end with it, or with
+///   `WriteFault`.
 /// - `no_file`, `no_read`: for words that name no file the shelf's count of failures is as before,
 ///   and `ReadFault` never comes.
 /// - `succeeds`: on a steady shelf that holds each file that the work reaches, `ReadFault` never
@@ -113,13 +119,15 @@ fn dispatch<S: Shelf, K: Sink>(
 ///
 /// `NoMemory` may come at any growth of memory.
 pub fn run<S: Shelf, K: Sink>(alloc: Global, words: &[String], shelf: &mut S, out: &mut K) -> Status
-    ensures ended { Ended (S.contents shelf.old) (K.written out.old) (K.written out.new)
-        (Answers (map string_bytes words.now)) result }
+    ensures ended { Ended (told_for (work_of (form_of (map string_bytes words.now))) (S.contents shelf.old))
+        (K.written out.old) (K.written out.new) (Answers (map string_bytes words.now)) result }
     ensures nothing { IsTrue (reads_first (work_of (form_of (map string_bytes words.now))))
         → result ≡ Status.ReadFault → K.written out.new ≡ K.written out.old }
     ensures read_cause { result ≡ Status.ReadFault → HasRisen (S.faults shelf.old) (S.faults shelf.new) }
     ensures write_cause { result ≡ Status.WriteFault → HasRisen (K.faults out.old) (K.faults out.new) }
     ensures usage { result ≡ Status.Usage → form_of (map string_bytes words.now) ≡ None }
+    ensures no_form { form_of (map string_bytes words.now) ≡ None
+        → (result ≡ Status.Usage) ⊎ (result ≡ Status.WriteFault) }
     ensures no_file { IsTrue (begins_none (work_of (form_of (map string_bytes words.now))))
         → S.faults shelf.new ≡ S.faults shelf.old }
     ensures no_read { IsTrue (begins_none (work_of (form_of (map string_bytes words.now))))
@@ -139,6 +147,12 @@ pub fn run<S: Shelf, K: Sink>(alloc: Global, words: &[String], shelf: &mut S, ou
 /// Words and files have one answer, and never none.
 pub fn one_answer()
     ensures { OneAnswer }
+{}
+
+/// What `check` prints on a text is right for the one specification that the text spells: each line on a
+/// table says what is so of that table, and after `Done` every table is as it must be.
+pub fn printed_right()
+    ensures { PrintedRight }
 {}
 
 /// What `invariants` prints as found holds in every state of every run of the specification that its

@@ -7,7 +7,7 @@ use Rattle.scr_job.specs.declared.status.Status.{Status}
 use Rattle.scr_job.specs.declared.status.Status.TheVariants.{ReadFault}
 use Rattle.scr_job.specs.declared.status.Stop.{Stop}
 use Rattle.scr_job.specs.declared.status.Stop.TheVariants.{Read, Write, NoMemory}
-use Rattle.scr_job.specs.Ends.{Files, Answer, ByFile, IsFront, IsPart, Stopped}
+use Rattle.scr_job.specs.Ends.{Files, Answer, ByFile, IsFront, IsPart, IsCut, Wrote, Answered, Stopped}
 
 -- nothing is the front of an answer
 IsPart-nil : (answers : List ℕ → Status → Type 0) (stop : Stop) → IsFront answers [] → (stop ≡ Write → ⊥) → IsPart answers stop []
@@ -16,24 +16,36 @@ IsPart-nil answers Write some other = absurd (other refl)
 IsPart-nil answers NoMemory some other = some
 
 -- it stopped before it wrote
+pub IsCut-early : (answers : List ℕ → Status → Type 0) (written : Option (List ℕ)) (stop : Stop) → IsFront answers [] → (stop ≡ Write → ⊥) → IsCut answers written written stop
+IsCut-early answers written stop some other = ([], Appends-nil written, IsPart-nil answers stop some other)
+
 pub Stopped-early : (told : Option Files) (written : Option (List ℕ)) (answers : Answer) (stop : Stop)
     → ((files : Files) → IsFront (answers files) []) → (stop ≡ Write → ⊥) → Stopped told written written answers stop
 Stopped-early None written answers stop some other = tt
-Stopped-early (Some files) written answers stop some other = ([], Appends-nil written, IsPart-nil (answers files) stop (some files) other)
+Stopped-early (Some files) written answers stop some other = IsCut-early (answers files) written stop (some files) other
 
--- it stopped while it wrote a text that is an answer to the files
+-- it stopped while it wrote a text that is an answer
+pub IsCut-writing : (answers : List ℕ → Status → Type 0) (old new : Option (List ℕ)) (text : List ℕ) (status : Status) → answers text status → AppendsPart old new text
+    → IsCut answers old new Write
+IsCut-writing answers old new text status is part =
+    (take part.count text, part.appended, (drop part.count text, status, omega (arith, length-drop part.count text, part.proper), rw take-append-drop is))
+
+-- the same for a text that is an answer to the files
 pub Stopped-writing : (told : Option Files) (old new : Option (List ℕ)) (answers : Answer) (text : List ℕ) (status : Status) (P : Files → Type 0)
     → IfSome told P → ((files : Files) → P files → answers files text status) → AppendsPart old new text → Stopped told old new answers Write
 Stopped-writing None old new answers text status P held is part = tt
-Stopped-writing (Some files) old new answers text status P held is part =
-    (take part.count text, part.appended, (drop part.count text, status, omega (arith, length-drop part.count text, part.proper), rw take-append-drop (is files held)))
+Stopped-writing (Some files) old new answers text status P held is part = IsCut-writing (answers files) old new text status (is files held) part
 
--- the same for a text that is an answer to all files
-pub Stopped-fixed : (told : Option Files) (old new : Option (List ℕ)) (answers : Answer) (text : List ℕ) (status : Status)
-    → ((files : Files) → answers files text status) → AppendsPart old new text → Stopped told old new answers Write
-Stopped-fixed None old new answers text status is part = tt
-Stopped-fixed (Some files) old new answers text status is part =
-    (take part.count text, part.appended, (drop part.count text, status, omega (arith, length-drop part.count text, part.proper), rw take-append-drop (is files)))
+-- what was written without a file is so whatever is told of files
+pub Answered-any : (told : Option Files) (old new : Option (List ℕ)) (answers : List ℕ → Status → Type 0) (status : Status) → Wrote answers old new status
+    → Answered told old new (λ _. answers) status
+Answered-any None old new answers status wrote = tt
+Answered-any (Some files) old new answers status wrote = wrote
+
+pub Stopped-any : (told : Option Files) (old new : Option (List ℕ)) (answers : List ℕ → Status → Type 0) (stop : Stop) → IsCut answers old new stop
+    → Stopped told old new (λ _. answers) stop
+Stopped-any None old new answers stop cut = tt
+Stopped-any (Some files) old new answers stop cut = cut
 
 -- ---- by a file
 

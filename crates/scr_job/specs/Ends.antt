@@ -43,10 +43,14 @@ IsPart answers NoMemory bytes = IsFront answers bytes
 abbrev pub IsCut : (List ℕ → Status → Type 0) → Option (List ℕ) → Option (List ℕ) → Stop → Type 0
 IsCut answers old new stop = (bytes : List ℕ) × Appends old new bytes × IsPart answers stop bytes
 
+-- an answer with this status was written
+abbrev pub Wrote : (List ℕ → Status → Type 0) → Option (List ℕ) → Option (List ℕ) → Status → Type 0
+Wrote answers old new status = (bytes : List ℕ) × Appends old new bytes × answers bytes status
+
 -- where what is read is told, an answer to it with this status was written
 abbrev pub Answered : {X : Type 0} → Option X → Option (List ℕ) → Option (List ℕ) → (X → List ℕ → Status → Type 0) → Status → Type 0
 Answered None old new answers status = ⊤
-Answered (Some x) old new answers status = (bytes : List ℕ) × Appends old new bytes × answers x bytes status
+Answered (Some x) old new answers status = Wrote (answers x) old new status
 
 -- where what is read is told, a part of an answer to it was written
 abbrev pub Stopped : {X : Type 0} → Option X → Option (List ℕ) → Option (List ℕ) → (X → List ℕ → Status → Type 0) → Stop → Type 0

@@ -1,9 +1,10 @@
-//! The two orders of work of a command: a file that is read whole and answered by one text, and a file that is answered
-//! line by line.
+//! The three orders of work of a command: no file and one text, a file that is read whole and answered by one text, and a
+//! file that is answered line by line.
 #![tactic(auto)]
 
 mod closing;
 mod command;
+mod fileless;
 mod job;
 mod session;
 mod status;
@@ -12,6 +13,7 @@ mod whole;
 
 pub use closing::push_closing;
 pub use command::{Command, First, respond_by_lines};
+pub use fileless::{FilelessJob, respond_fileless};
 pub use job::{Job, respond};
 pub use session::Session;
 pub use status::{Status, Stop};

@@ -1,9 +1,5 @@
 //! A text that is changed line by line, and what a command answers on it.
 
-ghost use Rattle.std.specs.Prelude.{◌≡◌, IfOk};
-ghost use Rattle.std.specs.String.{string_bytes};
-ghost use Rattle.scr_io.specs.Memory.{names_differ};
-
 use scr_cli::run;
 use scr_io::{MemoryFile, MemoryShelf, MemorySink};
 use std::alloc::{AllocError, Global};
@@ -95,9 +91,7 @@ fn words_of(alloc: Global, command: &Command) -> Result<Vec<String>, AllocError>
 }
 
 /// A file of these lines.
-fn file_of(alloc: Global, name: &str, lines: &[String]) -> Result<MemoryFile, AllocError>
-    ensures { IfOk result (λ file. string_bytes file.name ≡ name.now) }
-{
+fn file_of(alloc: Global, name: &str, lines: &[String]) -> Result<MemoryFile, AllocError> {
     let name = name.to_string(alloc)?;
     let bytes = bytes_of(alloc, lines)?;
     Ok(MemoryFile { name, bytes })

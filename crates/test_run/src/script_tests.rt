@@ -1,9 +1,5 @@
 //! Runs of `simulate`, with the bytes and the status that are wanted.
 
-ghost use Rattle.std.specs.Prelude.{◌≡◌, IfOk};
-ghost use Rattle.std.specs.String.{string_bytes};
-ghost use Rattle.scr_io.specs.Memory.{names_differ};
-
 use scr_cli::{Status, run};
 use scr_io::{MemoryFile, MemoryShelf, MemorySink};
 use std::alloc::Global;
@@ -20,9 +16,7 @@ const ONE: &str = "0 a=FALSE b=FALSE t=FALSE\n1 a=TRUE b=FALSE t=FALSE\n";
 
 const TWO: &str = "0 a=FALSE b=FALSE t=FALSE\n1 a=TRUE b=FALSE t=FALSE\n2 a=TRUE b=TRUE t=TRUE\n";
 
-fn file(alloc: Global, name: &str, bytes: &str) -> Result<MemoryFile, Fail>
-    ensures { IfOk result (λ file. string_bytes file.name ≡ name.now) }
-{
+fn file(alloc: Global, name: &str, bytes: &str) -> Result<MemoryFile, Fail> {
     let name = name.to_string(alloc)?;
     let bytes = bytes.as_bytes().to_vec(alloc)?;
     Ok(MemoryFile { name, bytes })

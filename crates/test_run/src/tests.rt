@@ -16,9 +16,12 @@ const UNDECIDED: &[u8] = b"order: t\ntable t: undecided\n";
 
 // None at all, and then a list on each line, of which one has an empty word.
 const NO_FORM: &str =
-    "\ncheck\ncheck f 0\ncheck f 40001\ncheck f 007\ncheck f +5\ncheck f 1x\ncheck f \ncheck f 5 5\nCHECK f\nsimulate f\nsimulate f s 0";
+    "\ncheck\ncheck f 0\ncheck f 40001\ncheck f 007\ncheck f +5\ncheck f 1x\ncheck f \ncheck f 5 5\nCHECK f\nsimulate f\nsimulate f s 0\ngenerate\ngenerate 41\ngenerate 00\ngenerate 0 0\nlarge +1\nlarge f";
 
 const USAGE: &[u8] = b"usage: scr check|simulate|invariants|emit|format|runc|generate|large ...\n";
+
+const SUMMARY: &[u8] =
+    b"stages 1\ntables 3: yes 3, no 0, undecided 0\ninvariants 2\ninputs 3\n3 Reset=TRUE Input=0 L0=FALSE Phase=Idle Out=FALSE\n";
 
 // The calls of the shelf and of the sink that fail, 0 for none, and the room of the sink.
 #[derive(Clone, Copy)]
@@ -177,6 +180,7 @@ fn answers_its_words(rt: HostRuntime) -> Result<(), Fail> {
         ("check f 40000", REPORT, Status::Done),
         ("check f 4", UNDECIDED, Status::Undecided),
         ("check g", b"", Status::ReadFault),
+        ("large 0", SUMMARY, Status::Done),
     ] {
         let (ended, written) = run_on(alloc, words, TEXT.as_bytes(), NO_FAULTS)?;
         assert_eq!(rt; written.as_slice(), wanted, "{words}");
@@ -191,6 +195,44 @@ fn refuses_words_of_no_form(rt: HostRuntime) -> Result<(), Fail> {
         let (status, written) = run_on(rt.alloc(), words, TEXT.as_bytes(), NO_FAULTS)?;
         assert_eq!(rt; written.as_slice(), USAGE, "{words}");
         assert_eq!(rt; status, Status::Usage, "{words}");
+    }
+    Ok(())
+}
+
+// The lines that may stand in the answer to the front of a chain: its last line has no form, or the text ends behind it.
+fn refusals(alloc: Global, front: &[u8]) -> Result<[String; 2], Fail> {
+    let ends = front.iter().filter(|byte| **byte == b'\n').count();
+    let last = if front.is_empty() || front.ends_with(b"\n") {
+        ends
+    } else {
+        ends + 1
+    };
+    let behind = last + 1;
+    Ok([
+        format!(in alloc; "line {last}: syntax\n")?,
+        format!(in alloc; "line {behind}: end\n")?,
+    ])
+}
+
+#[test]
+fn refuses_each_front_of_a_chain(rt: HostRuntime) -> Result<(), Fail> {
+    let alloc = rt.alloc();
+    let faults = Faults {
+        room: 10_000,
+        ..NO_FAULTS
+    };
+    let (status, text) = run_on(alloc, "generate 40", b"", faults)?;
+    assert_eq!(rt; status, Status::Done);
+    assert!(rt; text.as_slice().ends_with(b"\nFINISH\n"));
+    for len in 0..text.len() - 1 {
+        let front = &text[..len];
+        let (status, written) = check(alloc, front)?;
+        let [syntax, end] = refusals(alloc, front)?;
+        assert_eq!(rt; status, Status::SpecRefused, "{len} bytes");
+        assert!(rt;
+            written.as_slice() == syntax.as_bytes() || written.as_slice() == end.as_bytes(),
+            "{len} bytes"
+        );
     }
     Ok(())
 }

@@ -1,0 +1,4 @@
+pub mod Texts
+pub mod Script
+pub mod Summaries
+pub mod Laws
