@@ -68,6 +68,7 @@ pub fn times(left: Option<i64>, right: Option<i64>) -> Option<i64>
     }
 }
 
+/// The sum, where both numbers and the sum are there.
 pub fn plus(left: Option<i64>, right: Option<i64>) -> Option<i64>
     ensures { result ≡ spec.plus left right }
 {
@@ -80,6 +81,7 @@ pub fn plus(left: Option<i64>, right: Option<i64>) -> Option<i64>
     }
 }
 
+/// The difference, where both numbers and the difference are there.
 pub fn minus(left: Option<i64>, right: Option<i64>) -> Option<i64>
     ensures { result ≡ spec.minus left right }
 {
@@ -92,6 +94,7 @@ pub fn minus(left: Option<i64>, right: Option<i64>) -> Option<i64>
     }
 }
 
+/// The number with the other sign, where it is there.
 pub fn negative(number: Option<i64>) -> Option<i64>
     ensures { result ≡ spec.negative number }
 {
@@ -127,6 +130,7 @@ pub fn relates(relation: Relation, left: Option<i64>, right: Option<i64>) -> Opt
     }
 }
 
+/// The other truth, where it is there.
 pub fn opposite(truth: Option<bool>) -> Option<bool>
     ensures { result ≡ option_map not truth }
 {

@@ -37,6 +37,7 @@ impl Model for Places {
 }
 
 impl Places {
+    /// Before the first name.
     pub fn new(alloc: Global) -> Places
         ensures { result ≡ [] }
     {

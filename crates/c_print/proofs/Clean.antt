@@ -12,7 +12,7 @@ use Rattle.c_subset.specs.declared.expr.CTerm.{CTerm}
 use Rattle.c_subset.specs.Parts.{Term}
 use Rattle.c_subset.specs.Names.{is_among, is_c_name}
 use Rattle.c_subset.specs.Kinds.{is_number, is_truth, kind_step, kind_of}
-use Rattle.c_reader.specs.declared.word.Word.TheVariants as w
+use Rattle.c_reader.specs.Word as w
 use Rattle.c_reader.specs.declared.word.Sign.{Sign}
 use Rattle.c_reader.specs.declared.word.Sign.TheVariants as s
 use Rattle.c_reader.specs.Grammar.{sign_of}

@@ -14,8 +14,8 @@ use Rattle.scr_text.specs.Piece.{is_word_byte}
 use Rattle.c_subset.specs.Names.{is_word, is_among, is_c_name}
 use Rattle.c_subset.specs.Names as c
 use Rattle.c_subset.specs.Kinds.{is_constant, is_number_in_range}
-use Rattle.c_reader.specs.declared.word.Word.{Word}
-use Rattle.c_reader.specs.declared.word.Word.TheVariants as w
+use Rattle.c_reader.specs.Word.{Word}
+use Rattle.c_reader.specs.Word as w
 use Rattle.c_reader.specs.declared.word.Sign.{Sign}
 use Rattle.c_reader.specs.declared.word.Sign.TheVariants as s
 use Rattle.c_reader.specs.declared.word.Keyword.{Keyword}

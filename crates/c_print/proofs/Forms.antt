@@ -5,7 +5,7 @@ use Rattle.scr_text.specs.declared.word.Relation.{Relation}
 use Rattle.c_subset.specs.declared.expr.CExpr.{CExpr}
 use Rattle.c_subset.specs.declared.expr.CExpr.TheVariants as e
 use Rattle.c_subset.specs.declared.expr.CTerm.{CTerm}
-use Rattle.c_reader.specs.declared.word.Word.TheVariants as w
+use Rattle.c_reader.specs.Word as w
 use Rattle.c_reader.specs.declared.word.Sign.{Sign}
 use Rattle.c_reader.specs.declared.word.Sign.TheVariants as s
 use Rattle.c_reader.specs.Grammar.{sign_of}

@@ -2,11 +2,10 @@
 use Rattle.std.proofs.Common.{◌≡◌, ℕ, zero, suc, ◌*◌, ◌<◌, true, List, [], ◌∷◌, ◌++◌, length, take, drop, refl, sym, ap, ap₂, subst, ◌∙◌, arith}
 use Rattle.std.specs.Prelude.{replicate}
 use Rattle.std.proofs.Math.Seq.{take-append_seam, drop-append_seam}
-use Rattle.c_reader.specs.declared.word.Word.{Word}
-use Rattle.c_reader.specs.declared.word.Token.{Token}
+use Rattle.c_reader.specs.Word.{Word}
 use Rattle.c_reader.specs.Pieces.{piece_len, space_len}
 use Rattle.c_reader.specs.Words.{word_of}
-use Rattle.c_reader.specs.Tokens.{token, Tokens, no_more, space, piece, words}
+use Rattle.c_reader.specs.Tokens.{Token, token, Tokens, no_more, space, piece, words}
 use Rattle.c_print.specs.Marks as m
 use Rattle.c_print.specs.Marks.{Mark, spelling, text, words_of}
 use Rattle.c_print.proofs.Cuts.{stops, IsSpelt, IsCut, word_cut}

@@ -1,6 +1,6 @@
 -- What is printed of an expression is read as that expression.
 use Rattle.std.proofs.Common.{◌≡◌, ℕ, zero, suc, ◌≤◌, ◌<◌, Bool, true, false, cond, List, [], ◌∷◌, length, map, refl, sym, ap, ◌∙◌, subst, inl, inr, ◌⊎◌, arith, Some, None, Option}
-use Rattle.std.specs.Prelude.{nat_lt, nat_le, is_some}
+use Rattle.std.specs.Prelude.{nat_lt, is_some}
 use Rattle.std.specs.Prelude as std
 use Rattle.std.specs.List.{AllByRecursion, list_all}
 use Rattle.std.proofs.lemmas.Bool.{and_parts, leb-true, ltb-false}
@@ -14,8 +14,8 @@ use Rattle.c_subset.specs.declared.expr.CTerm.{CTerm}
 use Rattle.c_subset.specs.Parts.{Term}
 use Rattle.c_subset.specs.Kinds.{is_number, is_truth, given, are_two, begins_plain, kind_step, kind_of}
 use Rattle.c_subset.specs.Nesting.{greatest, at_place, open_step, open_at}
-use Rattle.c_reader.specs.declared.word.Word.{Word}
-use Rattle.c_reader.specs.declared.word.Word.TheVariants as w
+use Rattle.c_reader.specs.Word.{Word}
+use Rattle.c_reader.specs.Word as w
 use Rattle.c_reader.specs.declared.word.Sign.TheVariants as s
 use Rattle.c_reader.specs.Grammar.{NotAt, NotAtRelation, sign_of, term, product_of, sum_of, all_of, any_of, Primary, name, constant, nested, Unary, plain, minus, not, Product, last_unary, unary_times, Sum, last_product, product_plus, product_minus, Comparison, alone, compare, Conjunction, last_comparison, comparison_and, Disjunction, last_conjunction, conjunction_or, Expression, expression}
 use Rattle.c_print.specs.Marks.{Mark, ink, words_of}

@@ -17,8 +17,8 @@ use Rattle.c_subset.specs.Kinds.{is_number, is_truth, kind_of}
 use Rattle.c_subset.specs.Nesting.{greatest, open_expr, open_block, open_stmt_step, open_stmt, open_function}
 use Rattle.c_subset.specs.Scope.{Known, Scope, known}
 use Rattle.c_subset.specs.Rules.{are_clauses, is_argument, rule_step, is_stmt, is_body, is_within_limits, number_names, is_item, with_item, are_items}
-use Rattle.c_reader.specs.declared.word.Word.{Word}
-use Rattle.c_reader.specs.declared.word.Word.TheVariants as w
+use Rattle.c_reader.specs.Word.{Word}
+use Rattle.c_reader.specs.Word as w
 use Rattle.c_reader.specs.declared.word.Sign.TheVariants as s
 use Rattle.c_reader.specs.declared.word.Keyword.TheVariants as k
 use Rattle.c_reader.specs.Units.{IsNatural, NotAtWord, begins_stmt, Number, plain_number, minus_number, Stop, goes_on, stop, Argument, no_argument, argument, test, Stmt, assign, call, choice, switch, Stmts, no_stmt, one_stmt, Block, block, Else, no_else, «else», braced, Clauses, no_clause, one_clause, labelled, Parameter, no_parameter, parameter, Item, object, function, Items, no_item, one_item}

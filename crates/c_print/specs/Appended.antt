@@ -6,7 +6,7 @@ use Rattle.c_subset.specs.declared.expr.CTerm.{CTerm}
 use Rattle.c_subset.specs.declared.stmt.CClause.{CClause}
 use Rattle.c_subset.specs.Parts.{Term, of_expr}
 use Rattle.c_subset.specs.declared.unit.CFunction.{CFunction}
-use Rattle.c_reader.specs.declared.word.Word.TheVariants as w
+use Rattle.c_reader.specs.Word as w
 use Rattle.c_reader.specs.declared.word.Sign.{Sign}
 use Rattle.c_reader.specs.declared.word.Sign.TheVariants as s
 use Rattle.c_reader.specs.declared.word.Keyword.{Keyword}

@@ -1,8 +1,8 @@
 -- What a text is made of: words, and the space between them. From these marks come its bytes, and its words alone.
 use Rattle.std.specs.Prelude.{ℕ, ◌*◌, List, [], ◌∷◌, ◌++◌, replicate, codes}
 use Rattle.std.specs.Fmt.{signed_decimal}
-use Rattle.c_reader.specs.declared.word.Word.{Word}
-use Rattle.c_reader.specs.declared.word.Word.TheVariants as w
+use Rattle.c_reader.specs.Word.{Word}
+use Rattle.c_reader.specs.Word as w
 use Rattle.c_reader.specs.declared.word.Sign.{Sign}
 use Rattle.c_reader.specs.declared.word.Sign.TheVariants as s
 use Rattle.c_reader.specs.declared.word.Keyword.{Keyword}

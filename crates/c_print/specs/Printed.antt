@@ -12,7 +12,7 @@ use Rattle.c_subset.specs.declared.unit.CItem.{CItem}
 use Rattle.c_subset.specs.declared.unit.CItem.TheVariants.{Object, Function}
 use Rattle.c_subset.specs.declared.unit.CUnit.{CUnit}
 use Rattle.c_subset.specs.Parts.{Term, Clause, of_expr, of_stmt}
-use Rattle.c_reader.specs.declared.word.Word.TheVariants as w
+use Rattle.c_reader.specs.Word as w
 use Rattle.c_reader.specs.declared.word.Sign.{Sign}
 use Rattle.c_reader.specs.declared.word.Sign.TheVariants as s
 use Rattle.c_reader.specs.declared.word.Keyword.{Keyword}

@@ -1,7 +1,7 @@
 //! Words and the space between them.
 
 ghost use Rattle.std.specs.Prelude.{◌≡◌, ◌∷◌, OnOk};
-ghost use Rattle.c_reader.specs.declared.word.Word.{Word};
+ghost use Rattle.c_reader.specs.Word as w;
 ghost use Rattle.c_print.specs.Appended as spec;
 ghost use Rattle.c_print.specs.Marks as marks;
 ghost use Rattle.c_print.specs.Printed as printed;
@@ -67,7 +67,7 @@ pub(crate) fn push_keyword(out: &mut Vec<u8>, keyword: Keyword) -> Result<(), No
 
 /// Writes a name.
 pub(crate) fn push_name(out: &mut Vec<u8>, name: &Name) -> Result<(), NoMemory>
-    ensures { OnOk result (spec.Appends (λ rest. marks.ink (Word.Name name.now) ∷ rest) out.old.items out.new.items) }
+    ensures { OnOk result (spec.Appends (λ rest. marks.ink (w.Name name.now) ∷ rest) out.old.items out.new.items) }
 {
     out.extend_from_slice(name.as_slice())?;
     Ok(())
@@ -75,7 +75,7 @@ pub(crate) fn push_name(out: &mut Vec<u8>, name: &Name) -> Result<(), NoMemory>
 
 /// Writes a constant.
 pub(crate) fn push_constant(out: &mut Vec<u8>, value: i64) -> Result<(), NoMemory>
-    ensures { OnOk result (spec.Appends (λ rest. marks.ink (Word.Constant value) ∷ rest) out.old.items out.new.items) }
+    ensures { OnOk result (spec.Appends (λ rest. marks.ink (w.Constant value) ∷ rest) out.old.items out.new.items) }
 {
     push_number(out, value)?;
     out.extend_from_slice(b"L")?;

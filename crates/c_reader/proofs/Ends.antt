@@ -5,10 +5,7 @@ use Rattle.c_subset.specs.declared.expr.CTerm.{CTerm}
 use Rattle.c_subset.specs.declared.stmt.CStmt.{CStmt}
 use Rattle.c_subset.specs.declared.stmt.CClause.{CClause}
 use Rattle.c_subset.specs.declared.unit.CItem.{CItem}
-use Rattle.std.proofs.lemmas.List.{length-map}
-use Rattle.c_reader.specs.declared.word.Word.{Word}
-use Rattle.c_reader.specs.declared.word.Token.{Token}
-use Rattle.c_reader.specs.Tokens.{words}
+use Rattle.c_reader.specs.Word.{Word}
 use Rattle.c_reader.specs.Grammar.{Primary, name, constant, nested, Unary, plain, minus, not, Product, last_unary, unary_times, Sum, last_product, product_plus, product_minus, Comparison, alone, compare, Conjunction, last_comparison, comparison_and, Disjunction, last_conjunction, conjunction_or, Expression, expression}
 use Rattle.c_reader.specs.Units.{Number, plain_number, minus_number, Stop, goes_on, stop, Argument, no_argument, argument, Test, test, Stmt, assign, call, choice, switch, Stmts, no_stmt, one_stmt, Block, block, Else, no_else, «else», Braced, braced, Clauses, no_clause, one_clause, Labelled, labelled, Parameter, no_parameter, parameter, Item, object, function}
 
@@ -112,7 +109,7 @@ item_end (object d) = later (later (later (next (number_end d))))
 item_end (function d ds) = later (later (later (joined (parameter_end d) (block_end ds))))
 
 -- an end is what is left behind so many words
-ends_length : {a b : List Word} → Ends a b → length b ≤ length a
+pub ends_length : {a b : List Word} → Ends a b → length b ≤ length a
 ends_length whole = omega arith
 ends_length (later d) = let e = ends_length d in omega arith
 
@@ -122,13 +119,6 @@ end_at {b = b} (later {x} {xs} d) =
     let h = ends_length d in
     let e : length (x ∷ xs) - length b ≡ suc (length xs - length b) = omega arith in
     end_at d ∙ sym (ap (λ n. drop n (x ∷ xs)) e)
-
--- behind a part there are no more tokens
-pub no_more_tokens : (a b : List Token) → Ends (words a) (words b) → length b ≤ length a
-no_more_tokens a b d =
-    let e = ends_length d in
-    let whole : length (words a) ≡ length a = length-map a (λ t. t.word) in
-    let left : length (words b) ≡ length b = length-map b (λ t. t.word) in omega arith
 
 -- an item has a word
 pub item_shorter : {from rest : List Word} {x : CItem} → Item from x rest → length rest < length from

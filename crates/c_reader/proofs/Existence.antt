@@ -1,48 +1,19 @@
 -- A text is read or refused: that it is neither is absurd.
-use Rattle.std.proofs.Common.{◌≡◌, ℕ, zero, suc, ◌-◌, ◌<◌, ◌≤◌, true, List, [], ◌∷◌, ◌++◌, length, drop, take, ◌⊎◌, inl, inr, refl, ap, ◌∙◌, subst, arith}
+use Rattle.std.proofs.Common.{◌≡◌, ℕ, zero, suc, ◌-◌, ◌<◌, ◌≤◌, true, List, [], ◌∷◌, ◌++◌, length, drop, refl, ap, ◌∙◌, subst, arith}
 use Rattle.std.proofs.lemmas.List.{length-drop}
 use Rattle.c_subset.specs.declared.unit.CItem.{CItem}
 use Rattle.c_subset.specs.declared.unit.CUnit.{CUnit}
 use Rattle.c_subset.specs.Scope.{no_scope}
 use Rattle.c_subset.specs.Rules.{are_items}
-use Rattle.c_reader.specs.declared.word.Word.{Word}
-use Rattle.c_reader.specs.declared.word.Word.TheVariants as w
-use Rattle.c_reader.specs.declared.word.Token.{Token}
-use Rattle.c_reader.specs.Pieces.{piece_len, space_len}
-use Rattle.c_reader.specs.Words.{word_of}
-use Rattle.c_reader.specs.Tokens.{token, Tokens, no_more, space, piece, refused, words}
+use Rattle.c_reader.specs.Word.{Word}
+use Rattle.c_reader.specs.Tokens.{Token, Tokens, words}
 use Rattle.c_reader.specs.Units.{Item, Items, no_item}
 use Rattle.c_reader.specs.Text.{Reads, Refuses}
 use Rattle.c_reader.proofs.Ends.{item_end, item_shorter, end_at}
-use Rattle.c_reader.proofs.UnitSteps.{one_more, words_drop, words_length, place_behind, behind_shorter, start_place, reads_all, refuses_at}
-
--- ---- tokens
-
-abbrev Cut : List ℕ → Type 0
-Cut bytes = (tokens : List Token) × Tokens bytes tokens
-
-none_or_some : (n : ℕ) → (n ≡ 0) ⊎ (0 < n)
-none_or_some zero = inl refl
-none_or_some (suc n) = inr (omega arith)
-
--- each text is cut
-cut_within : (n : ℕ) (bytes : List ℕ) → length bytes ≤ n → Cut bytes
-cut_within n [] h = ([], no_more)
-cut_within zero (b ∷ bytes) h = absurd (omega arith)
-cut_within (suc n) (b ∷ bytes) h =
-    elim (none_or_some (space_len (b ∷ bytes))) [
-      | inr some ↦
-          let left = length-drop (space_len (b ∷ bytes)) (b ∷ bytes) in
-          let rest = cut_within n (drop (space_len (b ∷ bytes)) (b ∷ bytes)) (omega (arith, left, some, h)) in (rest.0, space some rest.1)
-      | inl none ↦
-          elim (none_or_some (piece_len (b ∷ bytes))) [
-            | inr some ↦
-                let left = length-drop (piece_len (b ∷ bytes)) (b ∷ bytes) in
-                let rest = cut_within n (drop (piece_len (b ∷ bytes)) (b ∷ bytes)) (omega (arith, left, some, h)) in
-                (token (word_of (take (piece_len (b ∷ bytes)) (b ∷ bytes))) (length (b ∷ bytes)) ∷ rest.0, piece none some rest.1)
-            | inl no_piece ↦ (token w.Other (length (b ∷ bytes)) ∷ [], refused (omega arith) none no_piece)
-          ]
-    ]
+use Rattle.c_reader.specs.Cut.{tokens_of}
+use Rattle.c_reader.proofs.Cutting.{tokens_cut}
+use Rattle.c_reader.proofs.Places.{place_behind, start_place}
+use Rattle.c_reader.proofs.UnitSteps.{one_more, words_drop, words_length, behind_shorter, reads_all, refuses_at}
 
 -- ---- items
 
@@ -70,5 +41,5 @@ module _ (text : List ℕ) (unread : (unit : CUnit) → Reads text unit → ⊥)
 
 pub some_outcome : (text : List ℕ) → ((unit : CUnit) → Reads text unit → ⊥) → ((line : ℕ) → Refuses text line → ⊥) → ⊥
 some_outcome text unread unrefused =
-    let cut = cut_within (length text) text (omega arith) in
-    neither text unread unrefused cut.0 cut.1 (length cut.0) [] cut.0 no_item refl (start_place cut.0) (omega arith) (omega arith)
+    let tokens = tokens_of text in
+    neither text unread unrefused tokens (tokens_cut text) (length tokens) [] tokens no_item refl (start_place tokens) (omega arith) (omega arith)

@@ -4,8 +4,8 @@ use Rattle.scr_text.specs.declared.word.Relation.{Relation}
 use Rattle.c_subset.specs.declared.expr.CExpr.{CExpr}
 use Rattle.c_subset.specs.declared.expr.CExpr.TheVariants as e
 use Rattle.c_subset.specs.declared.expr.CTerm.{CTerm}
-use Rattle.c_reader.specs.declared.word.Word.{Word}
-use Rattle.c_reader.specs.declared.word.Word.TheVariants as w
+use Rattle.c_reader.specs.Word.{Word}
+use Rattle.c_reader.specs.Word as w
 use Rattle.c_reader.specs.declared.word.Sign.TheVariants as s
 use Rattle.c_reader.specs.Grammar.{NotAt, sign_of, sum_sign, product_of, sum_of, any_of, Primary, nested, Unary, plain, minus, not, Product, last_unary, unary_times, Sum, last_product, product_plus, product_minus, Comparison, alone, compare, Conjunction, last_comparison, comparison_and, Disjunction, last_conjunction, conjunction_or}
 use Rattle.c_reader.proofs.Once.{behind, unary_once, product_from, product_once, sum_from, sum_once, comparison_once, conjunction_from, conjunction_once, disjunction_from}

@@ -2,8 +2,8 @@
 use Rattle.std.proofs.Common.{◌≡◌, ℕ, ℤ, List, ◌∷◌, Option, Some, None, refl, sym, subst}
 use Rattle.c_subset.specs.declared.stmt.CStmt.{CStmt}
 use Rattle.c_subset.specs.declared.unit.CItem.{CItem}
-use Rattle.c_reader.specs.declared.word.Word.{Word}
-use Rattle.c_reader.specs.declared.word.Word.TheVariants as w
+use Rattle.c_reader.specs.Word.{Word}
+use Rattle.c_reader.specs.Word as w
 use Rattle.c_reader.specs.declared.word.Sign.TheVariants as s
 use Rattle.c_reader.specs.declared.word.Keyword.TheVariants as k
 use Rattle.c_reader.specs.Grammar.{NotAt}

@@ -1,6 +1,7 @@
 pub mod Once
 pub mod OnceUnits
 pub mod Cutting
+pub mod Places
 pub mod Keywords
 pub mod Reading
 pub mod ExprSteps

@@ -6,8 +6,8 @@ use Rattle.c_subset.specs.declared.stmt.CStmt.{CStmt}
 use Rattle.c_subset.specs.declared.stmt.CStmt.TheVariants as st
 use Rattle.c_subset.specs.declared.stmt.CClause.{CClause}
 use Rattle.c_subset.specs.declared.unit.CItem.{CItem}
-use Rattle.c_reader.specs.declared.word.Word.{Word}
-use Rattle.c_reader.specs.declared.word.Word.TheVariants as w
+use Rattle.c_reader.specs.Word.{Word}
+use Rattle.c_reader.specs.Word as w
 use Rattle.c_reader.specs.declared.word.Sign.TheVariants as s
 use Rattle.c_reader.specs.Grammar.{Expression, expression, Conjunction, Comparison, Sum, Product, Unary, last_conjunction, conjunction_or, last_comparison, comparison_and, alone, compare, last_product, product_plus, product_minus, last_unary, unary_times, plain}
 use Rattle.c_reader.specs.Units.{begins_stmt, clause_of, Number, plain_number, minus_number, Stop, goes_on, stop, Argument, no_argument, argument, Test, test, Stmt, assign, call, choice, switch, Stmts, no_stmt, one_stmt, Block, block, Else, no_else, «else», Braced, braced, Clauses, no_clause, one_clause, Labelled, labelled, Parameter, no_parameter, parameter, object_of, function_of, Item, object, function}

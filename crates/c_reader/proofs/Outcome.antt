@@ -6,9 +6,8 @@ use Rattle.c_subset.specs.declared.unit.CItem.{CItem}
 use Rattle.c_subset.specs.declared.unit.CUnit.{CUnit}
 use Rattle.c_subset.specs.Scope.{Scope, no_scope}
 use Rattle.c_subset.specs.Rules.{is_item, with_item, are_items}
-use Rattle.c_reader.specs.declared.word.Word.{Word}
-use Rattle.c_reader.specs.declared.word.Token.{Token}
-use Rattle.c_reader.specs.Tokens.{words, line_at}
+use Rattle.c_reader.specs.Word.{Word}
+use Rattle.c_reader.specs.Tokens.{Token, words, line_at}
 use Rattle.c_reader.specs.Units.{Item, Items, no_item, one_item}
 use Rattle.c_reader.specs.Text.{Reads, Refuses}
 use Rattle.c_reader.specs.Laws.{OneOutcome}

@@ -8,8 +8,8 @@ use Rattle.c_subset.specs.declared.unit.CItem.{CItem}
 use Rattle.c_subset.specs.Parts.{function_of}
 use Rattle.c_subset.specs.Plain.{no_switch_step, has_no_switch, SwitchChangesNothing}
 use Rattle.c_subset.specs.Unrolled.{of_stmt-Assign, of_stmt-If, of_stmt-Call}
-use Rattle.c_reader.specs.declared.word.Word.{Word}
-use Rattle.c_reader.specs.declared.word.Word.TheVariants as w
+use Rattle.c_reader.specs.Word.{Word}
+use Rattle.c_reader.specs.Word as w
 use Rattle.c_reader.specs.declared.word.Sign.TheVariants as s
 use Rattle.c_reader.specs.Units.{Stmt, assign, call, choice, Stmts, no_stmt, one_stmt, Block, block, Else, no_else, «else», Item, object, function, Items, no_item, one_item}
 use Rattle.c_reader.specs.Plain.{PlainStmt, assigns, calls, chooses, PlainStmts, closes, one_plain, PlainBlock, opens, PlainElse, nothing_else, or_else, PlainItem, plain_object, plain_function, PlainItems, no_plain, one_plain_item, PlainTexts}

@@ -1,19 +1,21 @@
 -- Units, one item at a time.
-use Rattle.std.proofs.Common.{◌≡◌, ℕ, zero, suc, ◌-◌, ◌+◌, ◌≤◌, true, List, [], ◌∷◌, ◌++◌, length, drop, refl, sym, ap, ap₂, subst, ◌∙◌, arith}
-use Rattle.std.proofs.lemmas.List.{length-map, length-drop, drop-drop}
+use Rattle.std.proofs.Common.{◌≡◌, ℕ, zero, suc, ◌-◌, ◌≤◌, true, List, [], ◌∷◌, ◌++◌, length, drop, refl, sym, ap, subst, ◌∙◌, arith}
+use Rattle.std.proofs.lemmas.List.{length-map, length-drop}
 use Rattle.c_subset.specs.declared.unit.CItem.{CItem}
-use Rattle.c_reader.specs.declared.word.Word.{Word}
-use Rattle.c_reader.specs.declared.word.Token.{Token}
+use Rattle.c_reader.specs.Word.{Word}
 use Rattle.c_subset.specs.Scope.{Scope, no_scope}
 use Rattle.c_subset.specs.Rules.{is_item, with_item, are_items}
 use Rattle.c_subset.specs.Items.{scope_after}
 use Rattle.c_reader.specs.Kept.{Like}
 use Rattle.c_reader.proofs.Scopes.{same_item, like_joined, like_same, like_with, items_next, scope_next}
-use Rattle.c_reader.specs.Tokens.{Tokens, words, line_at}
+use Rattle.c_reader.specs.Pieces.{space_len}
+use Rattle.c_reader.specs.Tokens.{Token, token, Tokens, words, line_at}
+use Rattle.c_reader.specs.Cut.{tokens_of, tokens_from, words_from, IsCutAt}
+use Rattle.c_reader.proofs.Cutting.{tokens_cut, nothing_behind, first_token}
+use Rattle.c_reader.proofs.Places.{words_are}
 use Rattle.c_reader.specs.Text.{Reads, Refuses}
 use Rattle.c_reader.specs.Units.{Item, Items, no_item, one_item}
 use Rattle.c_reader.proofs.OnceUnits.{item_once}
-use Rattle.c_reader.proofs.Ends.{item_end, end_at}
 
 -- one more item behind these
 pub one_more : {from mid rest : List Word} {x : CItem} (xs : List CItem) → Items from xs mid → Item mid x rest → Items from (xs ++ x ∷ []) rest
@@ -28,28 +30,13 @@ words_drop (suc n) (t ∷ tokens) = words_drop n tokens
 pub words_length : (tokens : List Token) → length (words tokens) ≡ length tokens
 words_length tokens = length-map tokens (λ t. t.word)
 
--- the tokens behind an item, found by their number
-pub left_behind : (here rest : List Token) {x : CItem} → Item (words here) x (words rest) → words rest ≡ words (drop (length here - length rest) here)
-left_behind here rest d =
-    end_at (item_end d) ∙ ap₂ (λ n m. drop (n - m) (words here)) (words_length here) (words_length rest) ∙ words_drop (length here - length rest) here
-
--- behind the first of the tokens at a place
-pub place_behind : (tokens here behind : List Token) (n : ℕ) → here ≡ drop (length tokens - length here) tokens → behind ≡ drop n here → n ≤ length here
-    → length here ≤ length tokens → behind ≡ drop (length tokens - length behind) tokens
-place_behind tokens here behind n e f h g =
-    let left : length behind ≡ length here - n = ap length f ∙ length-drop n here in
-    let same : length tokens - length here + n ≡ length tokens - length behind = omega arith in
-    f ∙ ap (drop n) e ∙ drop-drop n (length tokens - length here) tokens ∙ ap (λ k. drop k tokens) same
-
 pub behind_shorter : (tokens here behind : List Token) (n : ℕ) → behind ≡ drop n here → length here ≤ length tokens → length behind ≤ length tokens
 behind_shorter tokens here behind n f h = let left : length behind ≡ length here - n = ap length f ∙ length-drop n here in omega arith
 
-pub next_said : (tokens : List Token) (items new : List CItem) (here rest behind : List Token) {x : CItem} → Items (words tokens) items (words here)
-    → Item (words here) x (words rest) → behind ≡ drop (length here - length rest) here → new ≡ items ++ x ∷ [] → Items (words tokens) new (words behind)
-next_said tokens items new here rest behind {x} said d f e =
-    let same : words rest ≡ words behind = left_behind here rest d ∙ sym (ap (λ (ts : List Token). words ts) f) in
-    let more : Items (words tokens) (items ++ x ∷ []) (words behind) = subst (λ end. Items (words tokens) (items ++ x ∷ []) end) same (one_more items said d) in
-    subst (λ xs. Items (words tokens) xs (words behind)) (sym e) more
+-- one more item behind the space at a place
+pub next_said : {from here start rest : List Word} {items new : List CItem} {x : CItem} → Items from items here → start ≡ here → Item start x rest → new ≡ items ++ x ∷ [] → Items from new rest
+next_said {from} {here} {start} {rest} {items} {new} {x} said same d e =
+    let one : Item here x rest = subst (λ words. Item words x rest) same d in subst (λ xs. Items from xs rest) (sym e) (one_more items said one)
 
 pub next_rules : (scope : Scope) (items new : List CItem) (x : CItem) → Like scope (scope_after no_scope items) → are_items no_scope items ≡ true → is_item scope x ≡ true → new ≡ items ++ x ∷ []
     → are_items no_scope new ≡ true
@@ -69,9 +56,6 @@ none_kept items e = rw e refl
 
 pub none_declared : (items : List CItem) {scope : Scope} → scope ≡ no_scope → items ≡ [] → Like scope (scope_after no_scope items)
 none_declared items h e = like_same (h ∙ ap (scope_after no_scope) (sym e))
-
-pub start_place : (tokens : List Token) → tokens ≡ drop (length tokens - length tokens) tokens
-start_place tokens = let e : length tokens - length tokens ≡ 0 = omega arith in sym (ap (λ n. drop n tokens) e)
 
 -- the item that is read keeps the rules where one that could be read does
 pub item_kept : (scope : Scope) {from mid rest : List Word} {x y : CItem} → Item from x mid → Item from y rest → is_item scope y ≡ true → is_item scope x ≡ true
@@ -105,4 +89,32 @@ refuses_at {text} {tokens} {here} {more} {next} {items} {line} cut said rules pl
       stands = stands;
     }
 
-pub ruleset unit_steps = (reads_all, refuses_at)
+-- ---- at a place of the text
+
+said_at : (text : List ℕ) (here start : ℕ) (items : List CItem) → Items (words_from text 0) items (words_from text here) → words_from text start ≡ words_from text here
+    → Items (words (tokens_of text)) items (words (tokens_from text start))
+unfolding words_from
+said_at text here start items said same = subst (λ end. Items (words (tokens_of text)) items end) (sym same) said
+
+-- the text ends
+pub reads_here : (text : List ℕ) (here start : ℕ) (items : List CItem) → Items (words_from text 0) items (words_from text here) → words_from text start ≡ words_from text here
+    → are_items no_scope items ≡ true → start ≡ length text → Reads text (record { items = items })
+reads_here text here start items said same rules end =
+    let none : tokens_from text start ≡ [] = ap (λ n. tokens_of (drop n text)) end ∙ nothing_behind text in
+    reads_all {here = tokens_from text start} (tokens_cut text) (said_at text here start items said same) rules none
+
+-- a token begins
+token_at : (text : List ℕ) (start : ℕ) → start ≤ length text → (start ≡ length text → ⊥) → space_len (drop start text) ≡ 0
+    → (word : Word) × (more : List Token) × (tokens_from text start ≡ token word (length text - start) ∷ more)
+token_at text start within some dark =
+    let left : length (drop start text) ≡ length text - start = length-drop start text in
+    let found = first_token (drop start text) (omega (arith, left, within, some)) dark in
+    (found.0, found.1, found.2 ∙ ap (λ n. token found.0 n ∷ found.1) left)
+
+pub refuses_here : (text : List ℕ) (here start line : ℕ) (items : List CItem) → Items (words_from text 0) items (words_from text here) → words_from text start ≡ words_from text here
+    → are_items no_scope items ≡ true → IsCutAt text start → (start ≡ length text → ⊥) → space_len (drop start text) ≡ 0
+    → ((x : CItem) (rest : List Word) → Item (words_from text start) x rest → are_items no_scope (items ++ x ∷ []) ≡ true → ⊥) → line ≡ line_at text (length text - start) → Refuses text line
+refuses_here text here start line items said same rules cut some dark none stands =
+    let found = token_at text start cut.within some dark in
+    refuses_at {here = tokens_from text start} (tokens_cut text) (said_at text here start items said same) rules cut.last found.2
+    (λ x rest d. none x rest (subst (λ words. Item words x rest) (sym (words_are text start)) d)) stands

@@ -1,6 +1,8 @@
+pub mod Word
 pub mod Pieces
 pub mod Words
 pub mod Tokens
+pub mod Cut
 pub mod Grammar
 pub mod Units
 pub mod Text

@@ -10,13 +10,12 @@ use Rattle.c_subset.specs.Meaning.{Objects}
 use Rattle.c_subset.specs.Runs.{call_effect}
 use Rattle.c_subset.specs.Plain.{plain_call}
 use Rattle.c_subset.specs.Rules.{is_unit}
-use Rattle.c_reader.specs.declared.word.Word.{Word}
-use Rattle.c_reader.specs.declared.word.Word.TheVariants as w
-use Rattle.c_reader.specs.declared.word.Token.{Token}
+use Rattle.c_reader.specs.Word.{Word}
+use Rattle.c_reader.specs.Word as w
 use Rattle.c_reader.specs.declared.word.Sign.TheVariants as s
 use Rattle.c_reader.specs.declared.word.Keyword.TheVariants as k
 use Rattle.c_reader.specs.Grammar.{Expression}
-use Rattle.c_reader.specs.Tokens.{Tokens, words}
+use Rattle.c_reader.specs.Tokens.{Token, Tokens, words}
 use Rattle.c_reader.specs.Units.{NotAtWord, Number, Argument, Test, Parameter, object_of, function_of}
 use Rattle.c_reader.specs.Text.{Reads}
 

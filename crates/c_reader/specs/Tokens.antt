@@ -1,10 +1,14 @@
 -- The tokens of a text, and the line at which one stands.
 use Rattle.std.specs.Prelude.{◌≡◌, ℕ, ◌+◌, ◌-◌, ◌<◌, min, ◌==◌, List, [], ◌∷◌, length, take, drop, map, count_by}
-use Rattle.c_reader.specs.declared.word.Word.{Word}
-use Rattle.c_reader.specs.declared.word.Word.TheVariants as w
-use Rattle.c_reader.specs.declared.word.Token.{Token}
+use Rattle.c_reader.specs.Word.{Word}
+use Rattle.c_reader.specs.Word as w
 use Rattle.c_reader.specs.Pieces.{piece_len, space_len}
 use Rattle.c_reader.specs.Words.{word_of}
+
+-- a token, and how many bytes there are from its first one to the end of the text
+pub record Token : Type 0 where
+  pub word : Word
+  pub left : ℕ
 
 abbrev pub token : Word → ℕ → Token
 token word left = record { word = word; left = left }

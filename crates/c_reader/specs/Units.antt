@@ -6,8 +6,8 @@ use Rattle.c_subset.specs.declared.stmt.CStmt.TheVariants as st
 use Rattle.c_subset.specs.declared.stmt.CClause.{CClause}
 use Rattle.c_subset.specs.declared.unit.CItem.{CItem}
 use Rattle.c_subset.specs.declared.unit.CItem.TheVariants as it
-use Rattle.c_reader.specs.declared.word.Word.{Word}
-use Rattle.c_reader.specs.declared.word.Word.TheVariants as w
+use Rattle.c_reader.specs.Word.{Word}
+use Rattle.c_reader.specs.Word as w
 use Rattle.c_reader.specs.declared.word.Sign.TheVariants as s
 use Rattle.c_reader.specs.declared.word.Keyword.{Keyword}
 use Rattle.c_reader.specs.declared.word.Keyword.TheVariants as k

@@ -27,4 +27,4 @@ pub use fault::CFault;
 pub use laws::{bounded_depth, one_outcome, plain_texts};
 pub use spelling::number_of;
 pub use unit::read_c;
-pub use word::{Keyword, Sign, Token, Word};
+pub use word::{Keyword, Sign};

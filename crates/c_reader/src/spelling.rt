@@ -1,6 +1,6 @@
 //! The word that a token stands for.
 
-ghost use Rattle.std.specs.Prelude.{◌≡◌, ◌<◌, ◌≤◌, length, pos, IfOk};
+ghost use Rattle.std.specs.Prelude.{◌≡◌, ◌<◌, ◌≤◌, length, pos};
 ghost use Rattle.std.specs.List.{list_all};
 ghost use Rattle.std.specs.Char.{is_ascii_digit};
 ghost use Rattle.std.specs.Map.{lookup};
@@ -8,10 +8,9 @@ ghost use Rattle.std.specs.Str.{bytes_eq};
 ghost use Rattle.c_subset.specs.Names.{is_among};
 ghost use Rattle.c_subset.specs.Names as c;
 ghost use Rattle.c_reader.specs.Words as spec;
+ghost use Rattle.c_reader.specs.Cut.{word_in};
 
-use crate::word::{Keyword, Sign, Word};
-use scr_text::{Name, NoMemory};
-use std::alloc::Global;
+use crate::word::{Keyword, Piece, Sign};
 
 /// The greatest length of a name, in characters.
 pub(crate) const NAME_LIMIT: usize = 31;
@@ -130,16 +129,16 @@ fn sign_of(bytes: &[u8]) -> Option<Sign>
     }
 }
 
-fn named(alloc: Global, bytes: &[u8]) -> Result<Word, NoMemory>
-    ensures { IfOk result (λ word. word ≡ spec.named bytes.now (lookup (bytes_eq bytes.now) spec.keywords)) }
+fn named(bytes: &[u8]) -> Piece<'_>
+    ensures { word_in result ≡ spec.named bytes.now (lookup (bytes_eq bytes.now) spec.keywords) }
 {
     match keyword_of(bytes) {
-        Some(keyword) => Ok(Word::Reserved(keyword)),
+        Some(keyword) => Piece::Reserved(keyword),
         None => {
             if bytes.len() <= NAME_LIMIT && !is_c_keyword(bytes) {
-                Ok(Word::Name(Name::from_slice(alloc, bytes)?))
+                Piece::Name(bytes)
             } else {
-                Ok(Word::Other)
+                Piece::Other
             }
         }
     }
@@ -171,9 +170,9 @@ fn is_led_by_zero(digits: &[u8]) -> bool
     digits[0] == b'0' && digits.len() != 1
 }
 
-fn run_word(run: &[u8]) -> Word
+fn run_piece(run: &[u8]) -> Piece<'_>
     requires { 0 < length run.now }
-    ensures { result ≡ spec.run_word run.now }
+    ensures { word_in result ≡ spec.run_word run.now }
 {
     let last = run.len() - 1;
     let digits = run.split_at(last).0;
@@ -184,33 +183,33 @@ fn run_word(run: &[u8]) -> Word
         && !is_led_by_zero(digits)
         && value <= CONSTANT_LIMIT
     {
-        Word::Constant(value as i64)
+        Piece::Constant(value as i64)
     } else {
-        Word::Other
+        Piece::Other
     }
 }
 
-fn sign_word(bytes: &[u8]) -> Word
-    ensures { result ≡ spec.sign_word (spec.sign_of bytes.now) }
+fn sign_piece(bytes: &[u8]) -> Piece<'_>
+    ensures { word_in result ≡ spec.sign_word (spec.sign_of bytes.now) }
 {
     match sign_of(bytes) {
-        Some(sign) => Word::Sign(sign),
-        None => Word::Other,
+        Some(sign) => Piece::Sign(sign),
+        None => Piece::Other,
     }
 }
 
-/// The word that a token stands for.
+/// What a token stands for.
 #[tactic(auto, unfolding(crate::specs::Words::word_of))]
-pub(crate) fn word_of(alloc: Global, piece: &[u8]) -> Result<Word, NoMemory>
-    requires { 0 < length piece.now }
-    ensures { IfOk result (λ word. word ≡ spec.word_of piece.now) }
+pub(crate) fn piece_of(bytes: &[u8]) -> Piece<'_>
+    requires { 0 < length bytes.now }
+    ensures { word_in result ≡ spec.word_of bytes.now }
 {
-    let first = piece[0];
+    let first = bytes[0];
     if first.is_ascii_alphabetic() {
-        named(alloc, piece)
+        named(bytes)
     } else if first.is_ascii_digit() {
-        Ok(run_word(piece))
+        run_piece(bytes)
     } else {
-        Ok(sign_word(piece))
+        sign_piece(bytes)
     }
 }

@@ -39,3 +39,11 @@ fn refuses_a_call_before_the_function(rt: HostRuntime) -> Result<(), Fail> {
     assert_eq!(rt; fault, Some(CFault::Refused(2)));
     Ok(())
 }
+
+#[test]
+fn tells_the_line_of_the_token_behind_space(rt: HostRuntime) -> Result<(), Fail> {
+    let text = "long v_x = 0L;\n\n/* two\nlines */ v_x";
+    let fault = read_c(rt.alloc(), text.as_bytes()).err();
+    assert_eq!(rt; fault, Some(CFault::Refused(4)));
+    Ok(())
+}

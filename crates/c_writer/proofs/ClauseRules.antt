@@ -23,7 +23,7 @@ use Rattle.c_subset.specs.Kinds.{is_number_in_range, is_number}
 use Rattle.c_subset.specs.Nesting.{greatest, open_stmt_step}
 use Rattle.c_subset.specs.Scope.{Scope}
 use Rattle.c_subset.specs.Measures.{total, weight_step, stmt_weight, depth_step}
-use Rattle.c_subset.specs.Rules.{ends_filled, are_clauses, rule_step, is_stmt}
+use Rattle.c_subset.specs.Rules.{ends_filled, rule_step, is_stmt}
 use Rattle.c_subset.specs.Rules as rules
 use Rattle.c_subset.specs.Unrolled.{clause_of, of_stmt-Switch}
 use Rattle.c_writer.specs.Tables.{row_stmts, clause, mode_clauses, row_clauses, class_object, switch_stmts, rows_stmts, table_stmts}

@@ -30,6 +30,7 @@ pub fn relate(
     Ok(CExpr::Relate(left, relation, right))
 }
 
+/// The negation of an expression.
 pub fn negation(alloc: Global, e: CExpr) -> Result<CExpr, NoMemory>
     ensures { IfOk result (λ n. n ≡ Not e) }
 {

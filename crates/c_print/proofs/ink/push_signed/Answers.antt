@@ -1,7 +1,7 @@
 use Rattle.std.proofs.Common.{arith, ◌≡◌, ℤ, pos, negsuc, List, ℕ, ◌∷◌, ◌++◌, refl, ap, ◌∙◌}
 use Rattle.std.proofs.lemmas.Int.{ints}
 use Rattle.std.specs.Prelude.{OnOk, Result, Ok, Err}
-use Rattle.c_reader.specs.declared.word.Word.TheVariants as w
+use Rattle.c_reader.specs.Word as w
 use Rattle.c_print.specs.Marks.{Mark, ink, text}
 use Rattle.c_print.specs.Printed.{number_marks}
 use Rattle.c_print.specs.Appended.{Appends}

@@ -1,5 +1,5 @@
 use Rattle.std.proofs.Common.{ℕ, ◌∷◌, sym, ap}
-use Rattle.c_reader.specs.declared.word.Word.TheVariants as w
+use Rattle.c_reader.specs.Word as w
 use Rattle.c_reader.specs.declared.word.Sign.TheVariants as s
 use Rattle.c_print.specs.Marks.{ink, indent}
 use Rattle.c_print.specs.Printed.{sign, argument_marks, stmt_step, stmt_marks, Marks}

@@ -1,5 +1,5 @@
 use Rattle.std.proofs.Common.{◌∷◌, refl}
-use Rattle.c_reader.specs.declared.word.Word.TheVariants as w
+use Rattle.c_reader.specs.Word as w
 use Rattle.c_print.specs.Marks.{ink, space}
 use Rattle.c_print.specs.Printed.{keyword}
 use Rattle.c_print.specs.Appended.{named_marks}
