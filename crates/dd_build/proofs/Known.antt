@@ -1,18 +1,7 @@
 -- Intervals that are kept for the time of a call.
-use Rattle.std.proofs.Common.{◌≡◌, ℕ, zero, suc, ◌+◌, ◌<◌, ◌≤◌, ◌^◌, ℤ, pos, ◌+ℤ◌, ◌-ℤ◌, ◌≤ℤ◌, unsigned_abs, w64, to_z, of_z, FitsSigned, false, List, [], ◌∷◌, length, get_or, drop, refl, sym, ap, ap₂, subst, ◌∙◌, arith}
+use Rattle.std.proofs.Common.{◌≡◌, ℕ, zero, suc, ◌+◌, ◌<◌, ◌≤◌, ◌^◌, ℤ, pos, ◌+ℤ◌, ◌-ℤ◌, ◌≤ℤ◌, unsigned_abs, w64, to_z, of_z, FitsSigned, false, List, [], ◌∷◌, ◌++◌, length, get_or, drop, sym, ap, ap₂, subst, ◌∙◌, arith}
 use Rattle.std.specs.Prelude.{int_lt}
 use Rattle.std.proofs.lemmas.Int.{ints, to_z-of_z, to_z_pos, fits_signed_from_abs}
-use Rattle.std.proofs.lemmas.Map.Lookups.{exact_unsigned, exact_signed}
-use Rattle.std.proofs.lemmas.Map.Views.{by_place}
-use Rattle.std.specs.BTreeMap.{BTreeMap}
-use Rattle.std.specs.BTreeMap.Range.{EntryPlaces, IsRangeOf, IsEntryInRange}
-use Rattle.std.specs.Prelude.{IfSome, slice_get}
-use Rattle.std.specs.declared.ops.Bound.TheVariants.{Included, Unbounded}
-use Rattle.dd_build.specs.contracts.interval.SubtotalOrd.TheImpl.{cmp-value}
-use Rattle.std.specs.BTreeMap.{insert_entry}
-use Rattle.std.specs.declared.cmp.Ordering.{Ordering}
-use Rattle.std.specs.declared.cmp.Ordering.TheVariants.{Less, Equal, Greater}
-use Rattle.std.specs.Ordering.{match_ordering, ordering_then, nat_cmp, int_cmp, is_gt}
 use Rattle.dd_formula.specs.declared.formula.Op.{Op}
 use Rattle.dd_formula.specs.declared.formula.Term.{Term}
 use Rattle.dd_store.specs.Held.{Held, Has}
@@ -21,7 +10,7 @@ use Rattle.dd_build.specs.declared.interval.Interval.{Interval}
 use Rattle.dd_build.specs.declared.interval.Rest.{Rest}
 use Rattle.dd_build.specs.Built.{Keeps}
 use Rattle.dd_build.specs.Sums.{rest_of, rest_at}
-use Rattle.dd_build.specs.Intervals.{IsNear, IsSteady, IsInterval, AreIntervals, IsRest, IsKept}
+use Rattle.dd_build.specs.Intervals.{IsNear, IsSteady, IsInterval, AreIntervals, IsRest, IsFound, IsKept}
 use Rattle.dd_build.proofs.FactorLaws.{abs_sum, fits_small}
 use Rattle.dd_build.proofs.Stores.{same_at}
 
@@ -33,15 +22,15 @@ has_kept old new op ts place id s k has = record {
 }
 
 -- so all intervals stay
-pub AreIntervals-kept : (old new : Held) (op : Op) (ts : List Term) (es : List (Subtotal × Interval)) → Keeps old new → AreIntervals old op ts es → AreIntervals new op ts es
+pub AreIntervals-kept : (old new : Held) (op : Op) (ts : List Term) (known : List Interval) → Keeps old new → AreIntervals old op ts known → AreIntervals new op ts known
 AreIntervals-kept old new op ts [] k h = tt
-AreIntervals-kept old new op ts (e ∷ es) k h = (record { has = λ s low high. has_kept old new op ts e.0.place e.1.id s k (h.0.has s low high) }, AreIntervals-kept old new op ts es k h.1)
+AreIntervals-kept old new op ts (i ∷ is) k h = (record { has = λ s low high. has_kept old new op ts i.place i.id s k (h.0.has s low high) }, AreIntervals-kept old new op ts is k h.1)
 
 -- what is left after a sum of an interval
-pub IsRest-inside : (held : Held) (op : Op) (ts : List Term) (last from : Subtotal) (interval : Interval) (rest : Rest) → IsInterval held op ts last interval → last.place ≡ from.place → interval.first ≤ℤ from.sum → from.sum ≤ℤ last.sum
-    → rest.id ≡ interval.id → rest.room.below ≡ unsigned_abs (from.sum -ℤ interval.first) → rest.room.above ≡ unsigned_abs (last.sum -ℤ from.sum) → IsRest held op ts from rest
-IsRest-inside held op ts last from interval rest w place low high id below above =
-    let has : (s : ℤ) → interval.first ≤ℤ s → s ≤ℤ last.sum → Has held rest.id (rest_of held.domains op (drop from.place ts) s) =
+IsRest-inside : (held : Held) (op : Op) (ts : List Term) (from : Subtotal) (interval : Interval) (rest : Rest) → IsInterval held op ts interval → interval.place ≡ from.place → interval.first ≤ℤ from.sum → from.sum ≤ℤ interval.last
+    → rest.id ≡ interval.id → rest.room.below ≡ unsigned_abs (from.sum -ℤ interval.first) → rest.room.above ≡ unsigned_abs (interval.last -ℤ from.sum) → IsRest held op ts from rest
+IsRest-inside held op ts from interval rest w place low high id below above =
+    let has : (s : ℤ) → interval.first ≤ℤ s → s ≤ℤ interval.last → Has held rest.id (rest_of held.domains op (drop from.place ts) s) =
     λ s l h. subst (λ i. Has held i (rest_of held.domains op (drop from.place ts) s)) (sym id) (subst (λ i. Has held interval.id (rest_of held.domains op (drop i ts) s)) place (w.has s l h)) in
     record {
       has = has from.sum low high;
@@ -53,62 +42,42 @@ IsRest-inside held op ts last from interval rest w place low high id below above
       };
     }
 
+-- each known interval is one
+interval_at : (held : Held) (op : Op) (ts : List Term) (known : List Interval) (i : ℕ) (d : Interval) → i < length known → AreIntervals held op ts known → IsInterval held op ts (get_or known i d)
+interval_at held op ts [] i d lt h = absurd (omega arith)
+interval_at held op ts (k ∷ ks) zero d lt h = h.0
+interval_at held op ts (k ∷ ks) (suc i) d lt h = interval_at held op ts ks i d (omega arith) h.1
+
+-- so it tells what is left after each of its sums
+pub IsFound-inside : (known shown : List Interval) (i : ℕ) (from : Subtotal) (interval : Interval) (rest : Rest) → shown ≡ known → i < length shown → interval ≡ get_or shown i interval → interval.place ≡ from.place → interval.first ≤ℤ from.sum → from.sum ≤ℤ interval.last
+    → rest.id ≡ interval.id → rest.room.below ≡ unsigned_abs (from.sum -ℤ interval.first) → rest.room.above ≡ unsigned_abs (interval.last -ℤ from.sum) → IsFound known from rest
+IsFound-inside known shown i from interval rest same lt is place low high id below above = record {
+  is = λ held op ts are. IsRest-inside held op ts from interval rest (subst (IsInterval held op ts) (sym is) (interval_at held op ts shown i interval lt (subst (AreIntervals held op ts) (sym same) are))) place low high id below above;
+}
+
 -- the interval of what is left after a subtotal
-pub IsInterval-rest : (held : Held) (op : Op) (ts : List Term) (from last : Subtotal) (rest : Rest) (interval : Interval) → IsRest held op ts from rest → last.place ≡ from.place → last.sum ≡ from.sum +ℤ pos rest.room.above
-    → interval.first ≡ from.sum -ℤ pos rest.room.below → interval.id ≡ rest.id → IsInterval held op ts last interval
-IsInterval-rest held op ts from last rest interval w place sum first id = record {
+IsInterval-rest : (held : Held) (op : Op) (ts : List Term) (from : Subtotal) (rest : Rest) (interval : Interval) → IsRest held op ts from rest → interval.place ≡ from.place → interval.first ≡ from.sum -ℤ pos rest.room.below
+    → interval.last ≡ from.sum +ℤ pos rest.room.above → interval.id ≡ rest.id → IsInterval held op ts interval
+IsInterval-rest held op ts from rest interval w place first last id = record {
   has = λ s low high.
-      let near : IsNear from.sum rest.room s = record { low = omega (arith, ints, low, first); high = omega (arith, ints, high, sum) } in
+      let near : IsNear from.sum rest.room s = record { low = omega (arith, ints, low, first); high = omega (arith, ints, high, last) } in
       record {
         known = (subst (λ i. Has held i (rest_at held.domains op ts from)) (sym id) w.has).known;
         tree = (subst (λ i. Has held i (rest_at held.domains op ts from)) (sym id) w.has).tree ∙ sym (w.steady.same s near) ∙ ap (λ i. rest_of held.domains op (drop i ts) s) (sym place);
       };
 }
 
-module _ (R : Subtotal → Subtotal → Ordering) (exact : (a b : Subtotal) → R a b ≡ Equal → a ≡ b) (held : Held) (op : Op) (ts : List Term) (last : Subtotal) (interval : Interval) (w : IsInterval held op ts last interval) where
-  -- one interval more
-  pub AreIntervals-inserted : (es : List (Subtotal × Interval)) → AreIntervals held op ts es → AreIntervals held op ts (insert_entry R es last interval)
-  AreIntervals-inserted [] h = (w, tt)
-  AreIntervals-inserted (e ∷ es) h = by (R last e.0) (exact last e.0) (AreIntervals-inserted es h.1)
-    where
-      by : (o : Ordering) → (o ≡ Equal → last ≡ e.0) → AreIntervals held op ts (insert_entry R es last interval) → AreIntervals held op ts (match_ordering o ((last, interval) ∷ e ∷ es) ((e.0, interval) ∷ es) (e ∷ insert_entry R es last interval))
-      by Less same rest = (w, (h.0, h.1))
-      by Equal same rest = (subst (λ k. IsInterval held op ts k interval) (same refl) w, h.1)
-      by Greater same rest = (h.0, rest)
-
--- two orderings, of which the second counts where the first is equal
-both_equal : (x y : Ordering) → ordering_then x y ≡ Equal → (x ≡ Equal) × (y ≡ Equal)
-both_equal Less y h = cc
-both_equal Equal y h = (refl, h)
-both_equal Greater y h = cc
-
--- subtotals that compare equal are one
-exact : (a b : Subtotal) → cmp-value.it a b ≡ Equal → a ≡ b
-exact a b h =
-    let e = both_equal (nat_cmp a.place b.place) (int_cmp a.sum b.sum) h in
-    ap₂ (λ (i : ℕ) (z : ℤ). let s : Subtotal = record { place = i; sum = z } in s) (exact_unsigned a.place b.place e.0) (exact_signed a.sum b.sum e.1)
+-- one interval more
+AreIntervals-more : (held : Held) (op : Op) (ts : List Term) (known : List Interval) (interval : Interval) → IsInterval held op ts interval → AreIntervals held op ts known → AreIntervals held op ts (known ++ interval ∷ [])
+AreIntervals-more held op ts [] interval w h = (w, tt)
+AreIntervals-more held op ts (k ∷ ks) interval w h = (h.0, AreIntervals-more held op ts ks interval w h.1)
 
 -- what is left after a subtotal is kept
-pub IsKept-inserted : (es : List (Subtotal × Interval)) (from : Subtotal) (rest : Rest) (last : Subtotal) (interval : Interval) → last.place ≡ from.place → last.sum ≡ from.sum +ℤ pos rest.room.above → interval.first ≡ from.sum -ℤ pos rest.room.below → interval.id ≡ rest.id
-    → IsKept es from rest (insert_entry cmp-value.it es last interval)
-IsKept-inserted es from rest last interval place sum first id = record {
-  are = λ held op ts h w. AreIntervals-inserted cmp-value.it exact held op ts last interval (IsInterval-rest held op ts from last rest interval w place sum first id) es h;
+pub IsKept-more : (known : List Interval) (from : Subtotal) (rest : Rest) (interval : Interval) → interval.place ≡ from.place → interval.first ≡ from.sum -ℤ pos rest.room.below → interval.last ≡ from.sum +ℤ pos rest.room.above → interval.id ≡ rest.id
+    → IsKept known from rest (known ++ interval ∷ [])
+IsKept-more known from rest interval place first last id = record {
+  are = λ held op ts h w. AreIntervals-more held op ts known interval (IsInterval-rest held op ts from rest interval w place first last id) h;
 }
-
--- each known interval is one
-interval_at : (held : Held) (op : Op) (ts : List Term) (es : List (Subtotal × Interval)) (i : ℕ) (d : Subtotal × Interval) → i < length es → AreIntervals held op ts es → IsInterval held op ts (get_or es i d).0 (get_or es i d).1
-interval_at held op ts [] i d lt h = absurd (omega arith)
-interval_at held op ts (e ∷ es) zero d lt h = h.0
-interval_at held op ts (e ∷ es) (suc i) d lt h = interval_at held op ts es i d (omega arith) h.1
-
--- so is the first of a part of them
-pub IsInterval-first : (held : Held) (op : Op) (ts : List Term) (es part others : List (Subtotal × Interval)) (last : Subtotal) (interval : Interval) → EntryPlaces es part → part ≡ (last, interval) ∷ others → AreIntervals held op ts es → IsInterval held op ts last interval
-IsInterval-first held op ts es part others last interval places e h =
-    let d : Subtotal × Interval = (last, interval) in
-    let long : length part ≡ suc (length others) = ap length e in
-    let there = places.entries 0 d by_place (omega (arith, long)) in
-    let is : (last, interval) ≡ get_or es (places.start + 0) d = sym (ap (λ xs. get_or xs 0 d) e) ∙ there.1 in
-    subst (λ (x : Subtotal × Interval). IsInterval held op ts x.0 x.1) (sym is) (interval_at held op ts es (places.start + 0) d there.0 h)
 
 -- numbers as they are compared and subtracted
 pub not_less : (a b : ℤ) → FitsSigned w64 a → FitsSigned w64 b → int_lt (to_z w64 (of_z w64 a)) (to_z w64 (of_z w64 b)) ≡ false → b ≤ℤ a
@@ -135,21 +104,3 @@ IsRest-made old new op ts from rest domains has steady = record {
   has = subst (λ ds. Has new rest.id (rest_at ds op ts from)) (sym domains) has;
   steady = subst (λ ds. IsSteady ds op ts from rest.room) (sym domains) steady;
 }
-
--- a subtotal that is not before another of its place has no lower sum
-same_place : (n : ℕ) → nat_cmp n n ≡ Equal
-same_place n = grind arith
-
-not_lower : (a b : ℤ) → is_gt (int_cmp a b) ≡ false → a ≤ℤ b
-not_lower a b h = grind (arith, ints)
-
-pub not_before : (from last : Subtotal) → is_gt (cmp-value.it from last) ≡ false → last.place ≡ from.place → from.sum ≤ℤ last.sum
-not_before from last h place =
-    let e : nat_cmp from.place last.place ≡ Equal = ap (nat_cmp from.place) place ∙ same_place from.place in
-    not_lower from.sum last.sum (sym (ap (λ o. is_gt (ordering_then o (int_cmp from.sum last.sum))) e) ∙ h)
-
--- the first of a part that begins with a subtotal is not before it
-pub first_from : (m : BTreeMap Subtotal Interval) (part others : List (Subtotal × Interval)) (from last : Subtotal) (interval : Interval) → IsRangeOf cmp-value.it (Included from) Unbounded m part → part ≡ (last, interval) ∷ others → is_gt (cmp-value.it from last) ≡ false
-first_from m part others from last interval h e =
-    let first = subst (λ (xs : List (Subtotal × Interval)). IfSome (slice_get xs 0) (IsEntryInRange cmp-value.it (Included from) Unbounded m)) e h.1 in
-    first.0.0

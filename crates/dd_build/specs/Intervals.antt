@@ -47,13 +47,13 @@ pub record IsWithinBoth (room child : Room) (factor : ℤ) (steps : ℕ) (both :
   pub child_below : both.below + fallen factor steps ≤ child.below
   pub child_above : both.above + risen factor steps ≤ child.above
 
--- the number has the tree of what is left after each sum of an interval that ends with a subtotal
-pub record IsInterval (held : Held) (op : Op) (ts : List Term) (last : Subtotal) (interval : Interval) : Type 0 where
-  pub has : (s : ℤ) → interval.first ≤ℤ s → s ≤ℤ last.sum → Has held interval.id (rest_of held.domains op (drop last.place ts) s)
+-- the number has the tree of what is left after each sum of the interval
+pub record IsInterval (held : Held) (op : Op) (ts : List Term) (interval : Interval) : Type 0 where
+  pub has : (s : ℤ) → interval.first ≤ℤ s → s ≤ℤ interval.last → Has held interval.id (rest_of held.domains op (drop interval.place ts) s)
 
 -- so of each that is known
-abbrev pub AreIntervals : Held → Op → List Term → List (Subtotal × Interval) → Type 0
-AreIntervals held op ts entries = AllByRecursion (λ e. IsInterval held op ts e.0 e.1) entries
+abbrev pub AreIntervals : Held → Op → List Term → List Interval → Type 0
+AreIntervals held op ts intervals = AllByRecursion (IsInterval held op ts) intervals
 
 -- the number has the tree of what is left, which stays so far
 pub record IsRest (held : Held) (op : Op) (ts : List Term) (from : Subtotal) (rest : Rest) : Type 0 where
@@ -61,9 +61,9 @@ pub record IsRest (held : Held) (op : Op) (ts : List Term) (from : Subtotal) (re
   pub steady : IsSteady held.domains op ts from rest.room
 
 -- known intervals tell what is left after a subtotal
-pub record IsFound (entries : List (Subtotal × Interval)) (from : Subtotal) (rest : Rest) : Type 0 where
-  pub is : (held : Held) (op : Op) (ts : List Term) → AreIntervals held op ts entries → IsRest held op ts from rest
+pub record IsFound (known : List Interval) (from : Subtotal) (rest : Rest) : Type 0 where
+  pub is : (held : Held) (op : Op) (ts : List Term) → AreIntervals held op ts known → IsRest held op ts from rest
 
 -- with what is left after a subtotal they are known intervals
-pub record IsKept (old : List (Subtotal × Interval)) (from : Subtotal) (rest : Rest) (new : List (Subtotal × Interval)) : Type 0 where
+pub record IsKept (old : List Interval) (from : Subtotal) (rest : Rest) (new : List Interval) : Type 0 where
   pub are : (held : Held) (op : Op) (ts : List Term) → AreIntervals held op ts old → IsRest held op ts from rest → AreIntervals held op ts new

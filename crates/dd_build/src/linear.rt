@@ -13,12 +13,11 @@ ghost use Rattle.dd_build.specs.Atoms.{atom_of, IsAtomOver};
 ghost use Rattle.dd_build.specs.Sums.{AreOrderedTerms, rest_at, IsSubtotal, IsNextSubtotal, term_of};
 ghost use Rattle.dd_build.specs.Intervals.{IsSteady, IsAlike, IsInRoom, IsWithinBoth, AreIntervals};
 
-use crate::interval::{Intervals, Rest, Room, Subtotal, find, keep};
+use crate::interval::{Intervals, Rest, Room, Subtotal};
 use crate::reading::size_at;
 use crate::terms::ordered_terms;
 use dd_formula::{Linear, Op, Term};
 use dd_store::{Id, Store, StoreFault, Stretch};
-use std::collections::BTreeMap;
 
 /// No sum of an atom is so far from 0.
 const FAR: u64 = 1 << 62;
@@ -64,7 +63,12 @@ fn steps_within(room: Room, factor: i64, limit: usize) -> usize
     ensures in_room { IsInRoom room factor result }
 {
     let length = if factor > 0 { room.above } else { room.below };
-    limit.min((length / factor.unsigned_abs()) as usize)
+    let step = factor.unsigned_abs();
+    // Most intervals are narrower than a step, and then no division is needed.
+    if length < step {
+        return 0;
+    }
+    limit.min((length / step) as usize)
 }
 
 /// A room within another one and within that of a child, which so many steps of a factor stay in.
@@ -111,13 +115,13 @@ fn rest(
     requires held { IsHeld store.old }
     requires ordered { AreOrderedTerms 0 (length store.old.domains) terms.now }
     requires from { IsSubtotal store.old.domains terms.now from }
-    requires intervals { AreIntervals store.old op terms.now intervals.old.entries }
+    requires intervals { AreIntervals store.old op terms.now intervals.old.known.items }
     ensures built { IfOk result (λ rest. IsBuilt store.old store.new (rest_at store.old.domains op terms.now from) rest.id) }
     ensures steady { IfOk result (λ rest. IsSteady store.old.domains op terms.now from rest.room) }
     ensures full { result ≡ Err StoreFault.Full → IsOver store.old (rest_at store.old.domains op terms.now from) }
     ensures within { OnErr result (IsWithin store.old store.new (rest_at store.old.domains op terms.now from)) }
     ensures keeps { Keeps store.old store.new }
-    ensures intervals { OnOk result (AreIntervals store.new op terms.now intervals.new.entries) }
+    ensures intervals { OnOk result (AreIntervals store.new op terms.now intervals.new.known.items) }
 {
     if from.place == terms.len() {
         return Ok(Rest {
@@ -125,7 +129,7 @@ fn rest(
             room: room_alike(op, from.sum),
         });
     }
-    if let Some(known) = find(intervals, from) {
+    if let Some(known) = intervals.find(from) {
         return Ok(known);
     }
     let Term { factor, level } = terms[from.place];
@@ -148,7 +152,7 @@ fn rest(
         position = position + steps + 1;
     }
     let id = store.mk(level, runs.as_slice())?;
-    keep(intervals, from, Rest { id, room })?;
+    intervals.keep(from, Rest { id, room })?;
     Ok(Rest { id, room })
 }
 
@@ -161,7 +165,7 @@ pub fn atom(store: &mut Store, a: &Linear) -> Result<Id, StoreFault>
     ensures keeps { Keeps store.old store.new }
 {
     let terms = ordered_terms(store, a.terms.as_slice())?;
-    let mut intervals = BTreeMap::new(store.allocator());
+    let mut intervals = Intervals::new(store.allocator());
     let from = Subtotal {
         place: 0,
         sum: a.constant,

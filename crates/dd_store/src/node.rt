@@ -54,7 +54,7 @@ pub(crate) fn put(
     nodes.get_index_of(&key).ok_or(StoreFault::Full)
 }
 
-/// The runs with neighbours joined that have one child.
+/// The runs with neighbours joined that have one child, in no more room than they take.
 pub(crate) fn join_runs(alloc: Global, runs: &[Stretch]) -> Result<Vec<Stretch>, NoMemory>
     requires rise { RiseFrom 0 runs.now }
     requires some { 0 < length runs.now }
@@ -62,7 +62,7 @@ pub(crate) fn join_runs(alloc: Global, runs: &[Stretch]) -> Result<Vec<Stretch>,
     ensures same { IfOk result (λ out. children_of out.items ≡ children_of runs.now) }
     ensures some { IfOk result (λ out. 0 < length out.items) }
 {
-    let mut out = Vec::new(alloc);
+    let mut out = Vec::with_capacity(alloc, runs.len())?;
     let mut tail = runs[0];
     for index in 1..runs.len() {
         let run = runs[index];
@@ -72,5 +72,6 @@ pub(crate) fn join_runs(alloc: Global, runs: &[Stretch]) -> Result<Vec<Stretch>,
         tail = run;
     }
     out.push(tail)?;
+    out.shrink_to_fit();
     Ok(out)
 }

@@ -32,10 +32,10 @@ returns-then-from-terms-clause-steady t c =
 pub returns-in-Some-clause-built : goal.returns-in-Some-clause-built
 returns-in-Some-clause-built t c =
     IsBuilt-known c.args.store.now c.args.store.now (rest_at c.args.store.now.domains c.args.op c.args.terms.now c.args.from) c.in-Some.known.id c.requires.held (Keeps-itself c.args.store.now c.requires.held) refl
-    (c.in-Some.ensures.is c.args.store.now c.args.op c.args.terms.now c.requires.intervals).has
+    (c.in-Some.ensures.found.is c.args.store.now c.args.op c.args.terms.now c.requires.intervals).has
 
 pub returns-in-Some-clause-steady : goal.returns-in-Some-clause-steady
-returns-in-Some-clause-steady t c = (c.in-Some.ensures.is c.args.store.now c.args.op c.args.terms.now c.requires.intervals).steady
+returns-in-Some-clause-steady t c = (c.in-Some.ensures.found.is c.args.store.now c.args.op c.args.terms.now c.requires.intervals).steady
 
 pub size_at-size-requires : goal.size_at-size-requires
 size_at-size-requires t c =
@@ -133,7 +133,7 @@ returns-clause-keeps t c = (done t c).keeps
 pub returns-clause-intervals : goal.returns-clause-intervals
 returns-clause-intervals t c =
     c.in_ok-keep.ensures.are c.mk.new.self c.args.op c.args.terms.now
-    (AreIntervals-kept c.loop-position.store c.mk.new.self c.args.op c.args.terms.now c.loop-position.intervals.entries
+    (AreIntervals-kept c.loop-position.store c.mk.new.self c.args.op c.args.terms.now c.loop-position.intervals.known.items
     (Keeps-add_tree c.loop-position.store c.mk.new.self (split_of c.loop-position.store (term_of c.args.terms.now c.args.from.place).level c.as_slice.result.now) c.in_ok-id.ensures.trees c.in_ok-id.ensures.domains c.in_ok-id.ensures.limit c.in_ok-id.ensures.held) c.loop-position.invariant.1)
     (IsRest-made c.args.store.now c.mk.new.self c.args.op c.args.terms.now c.args.from _ (done t c).keeps.domains (done t c).built.has
     (IsSteady-end c.args.store.now c.requires.held c.args.op c.args.terms.now c.args.from c.requires.ordered (not_last c.args.from.place (length c.args.terms.now) c.requires.from.within c.if-from-terms.false) c.loop-position.room c.loop-position.position (omega (arith, c.size_at-size.ensures, c.loop-position-test.false)) c.loop-position.invariant.2))
