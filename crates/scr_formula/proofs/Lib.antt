@@ -6,6 +6,7 @@ pub mod ConditionTruth
 pub mod SideMeasure
 pub mod ConditionMeasure
 pub mod Growth
+pub mod Values
 pub mod EventTruth
 pub mod EventMeasure
 pub mod TableTruth

@@ -1,9 +1,8 @@
 //! Sides as terms and a constant.
-ghost use Rattle.std.specs.Prelude.{◌≡◌, ◌≤◌, ◌++◌, ◌*ℤ◌, ◌+ℤ◌, ◌-ℤ◌, unsigned_abs, IsTrue, OnOk, IfOk};
+ghost use Rattle.std.specs.Prelude.{◌≡◌, ◌≤◌, ◌++◌, ◌*ℤ◌, ◌-ℤ◌, map, unsigned_abs, IsTrue, OnOk, IfOk, MatchOption};
 ghost use Rattle.scr_spec.specs.Shown.{data_of};
-ghost use Rattle.scr_spec.specs.Meaning.{truth_code};
 ghost use Rattle.scr_spec.specs.Over.{is_item_over, is_side_over, is_operand_over, operand_bound, item_bound};
-ghost use Rattle.scr_formula.specs.Sides.{signed, term_of, side_terms, fixed_value, side_constant, difference};
+ghost use Rattle.scr_formula.specs.Sides.{plain_in_new as plain_new, primed_in_new as primed_new, negated, term_of, side_terms, fixed_value, side_constant, difference};
 
 use crate::level::level_at;
 use crate::{Linear, Op, Term};
@@ -12,48 +11,94 @@ use scr_text::NoMemory;
 use sqlite_items::Items;
 use std::alloc::Global;
 
-#[tactic(auto, using(std::proofs::lemmas::Int::ints))]
-fn signed_factor(factor: i64, away: bool) -> i64
-    requires { unsigned_abs factor ≤ 1000000 }
-    ensures { result ≡ signed away factor }
-{
-    if away { -factor } else { factor }
+/// Which state the names of a side are read in.
+#[derive(Clone, Copy, Debug, PartialEq, Eq)]
+pub enum Reading {
+    /// All names in one: the new state where this is true, and the old one else.
+    In(bool),
+    /// Unprimed names in the old state, and primed ones in the new.
+    Across,
 }
 
-#[tactic(auto, using(std::proofs::lemmas::Int::ints))]
-fn term_at(spec: &Spec, item: Item, away: bool, plain: bool, primed: bool) -> Option<Term>
+fn plain_in_new(reading: Reading) -> bool
+    ensures { result ≡ plain_new reading }
+{
+    match reading {
+        Reading::In(new) => new,
+        Reading::Across => false,
+    }
+}
+
+fn primed_in_new(reading: Reading) -> bool
+    ensures { result ≡ primed_new reading }
+{
+    match reading {
+        Reading::In(new) => new,
+        Reading::Across => true,
+    }
+}
+
+fn term_at(spec: &Spec, item: Item, reading: Reading) -> Option<Term>
     requires { IsTrue (is_item_over (data_of spec.now) item) }
-    ensures { result ≡ term_of away plain primed item item.operand }
+    ensures term { result ≡ term_of reading item item.operand }
+    ensures narrow { MatchOption result (Unit {0}) (λ t. unsigned_abs t.factor ≤ 1000000) }
 {
     match item.operand {
         Operand::Variable(v) => Some(Term {
-            factor: signed_factor(item.factor, away),
-            level: level_at(v, plain),
+            factor: item.factor,
+            level: level_at(v, plain_in_new(reading)),
         }),
         Operand::Primed(v) => Some(Term {
-            factor: signed_factor(item.factor, away),
-            level: level_at(v, primed),
+            factor: item.factor,
+            level: level_at(v, primed_in_new(reading)),
         }),
         _ => None,
     }
 }
 
-/// Adds the terms of a side, with negated factors where it is taken away.
+#[tactic(auto, using(std::proofs::lemmas::Int::ints))]
+fn negate(term: Term) -> Term
+    requires { unsigned_abs term.factor ≤ 1000000 }
+    ensures { result ≡ negated term }
+{
+    Term {
+        factor: -term.factor,
+        level: term.level,
+    }
+}
+
+/// Adds the terms of a side.
 #[tactic(auto, using(crate::proofs::Terms::more_terms))]
 pub fn push_side(
     out: &mut Items<Term>,
     spec: &Spec,
     e: &Expr,
-    away: bool,
-    plain: bool,
-    primed: bool,
+    reading: Reading,
 ) -> Result<(), NoMemory>
     requires { IsTrue (is_side_over (data_of spec.now) e.now) }
-    ensures { OnOk result (out.new ≡ out.old ++ side_terms away plain primed e.now) }
+    ensures { OnOk result (out.new ≡ out.old ++ side_terms reading e.now) }
 {
     for item in e.items.as_slice() {
-        if let Some(term) = term_at(spec, *item, away, plain, primed) {
+        if let Some(term) = term_at(spec, *item, reading) {
             out.push(term)?;
+        }
+    }
+    Ok(())
+}
+
+/// Adds the terms of a side that is taken away.
+pub fn push_negated_side(
+    out: &mut Items<Term>,
+    spec: &Spec,
+    e: &Expr,
+    reading: Reading,
+) -> Result<(), NoMemory>
+    requires { IsTrue (is_side_over (data_of spec.now) e.now) }
+    ensures { OnOk result (out.new ≡ out.old ++ map negated (side_terms reading e.now)) }
+{
+    for item in e.items.as_slice() {
+        if let Some(term) = term_at(spec, *item, reading) {
+            out.push(negate(term))?;
         }
     }
     Ok(())
@@ -96,38 +141,36 @@ pub fn constant_at(spec: &Spec, e: &Expr) -> i64
     sum
 }
 
-fn difference_of(left: i64, right: i64, strict: bool) -> i64
+/// One number less another.
+pub fn less(left: i64, right: i64) -> i64
     requires left_narrow { unsigned_abs left ≤ 2000000000 }
     requires right_narrow { unsigned_abs right ≤ 2000000000 }
-    ensures { result ≡ left -ℤ right +ℤ truth_code strict }
+    ensures value { result ≡ left -ℤ right }
+    ensures bounded { unsigned_abs result ≤ 4000000000 }
 {
-    if strict {
-        left - right + 1
-    } else {
-        left - right
-    }
+    left - right
 }
 
-/// The left side less the right, with 1 added where the comparison is strict.
+/// The left side less the right, against 0.
 pub fn difference_at(
     alloc: Global,
     spec: &Spec,
     new: bool,
     left: &Expr,
     right: &Expr,
-    strict: bool,
     op: Op,
 ) -> Result<Linear, NoMemory>
     requires left_over { IsTrue (is_side_over (data_of spec.now) left.now) }
     requires right_over { IsTrue (is_side_over (data_of spec.now) right.now) }
-    ensures { IfOk result (λ a. a ≡ difference (data_of spec.now) new left.now right.now (truth_code strict) op) }
+    ensures atom { IfOk result (λ a. a ≡ difference (data_of spec.now) new left.now right.now op) }
+    ensures bounded { IfOk result (λ a. unsigned_abs a.constant ≤ 4000000000) }
 {
     let mut terms = Items::new(alloc);
-    push_side(&mut terms, spec, left, false, new, new)?;
-    push_side(&mut terms, spec, right, true, new, new)?;
+    push_side(&mut terms, spec, left, Reading::In(new))?;
+    push_negated_side(&mut terms, spec, right, Reading::In(new))?;
     Ok(Linear {
         terms,
-        constant: difference_of(constant_at(spec, left), constant_at(spec, right), strict),
+        constant: less(constant_at(spec, left), constant_at(spec, right)),
         op,
     })
 }

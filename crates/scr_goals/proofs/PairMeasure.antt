@@ -19,8 +19,8 @@ use Rattle.scr_formula.specs.Measure.{term_measure, measure, is_atom_over, IsOve
 use Rattle.dd_formula.specs.Measure.{all_atoms}
 use Rattle.scr_formula.specs.Tables.{own_formula, relation_formula}
 use Rattle.dd_formula.proofs.FormulaLaws.{all_atoms-And}
-use Rattle.scr_formula.proofs.SideMeasure.{level_of-half, own_level}
-use Rattle.scr_formula.proofs.ConditionMeasure.{neg_size, over_atom, over_not}
+use Rattle.scr_formula.proofs.SideMeasure.{level_of-half, own_level, neg_size}
+use Rattle.scr_formula.proofs.ConditionMeasure.{over_atom, over_not}
 use Rattle.scr_formula.proofs.EventMeasure.{over_same_code}
 use Rattle.scr_formula.proofs.TableMeasure.{own_over_ok, relation_over_ok}
 use Rattle.scr_depend.specs.Graphs.{is_among}

@@ -39,7 +39,7 @@ pub record HandsOut (old new : LinesState) (left_old left_new : Option (List ℕ
   pub rest : Keeps (prepend_known old.ahead left_old) (prepend_known (raw ++ new.ahead) left_new)
 
 -- no line is held, and none follows
-pub record IsOver (old new : LinesState) : Type 0 where
+pub record IsAtEnd (old new : LinesState) : Type 0 where
   pub live : new.live ≡ false
   pub line : new.line ≡ None
   pub given : new.given ≡ old.given

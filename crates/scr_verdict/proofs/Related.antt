@@ -1,5 +1,5 @@
 -- What goals have in common, kept by the variable that changed.
-use Rattle.std.proofs.Common.{◌≡◌, ℕ, cond, List, [], ◌∷◌, Some, Result, Ok, Err, OnOk, IfOk, refl, sym, subst, arith}
+use Rattle.std.proofs.Common.{◌≡◌, ℕ, cond, List, [], ◌∷◌, Some, Result, Ok, Err, OnOk, refl, sym, subst, arith}
 use Rattle.std.specs.declared.vec.Vec.{Vec}
 use Rattle.std.specs.declared.alloc.Global.{Global}
 use Rattle.std.specs.declared.cmp.Ordering.{Ordering}
@@ -13,10 +13,6 @@ use Rattle.dd_store.specs.Held.{Held}
 use Rattle.dd_build.specs.Built.{Keeps}
 use Rattle.dd_build.specs.Stored.{AreStored}
 use Rattle.dd_build.proofs.Stored.{AreStored-later}
-use Rattle.dd_formula.specs.declared.formula.Formula.{Formula}
-use Rattle.scr_decide.specs.declared.decision.Decision.{Decision}
-use Rattle.scr_decide.specs.declared.decision.Decision.TheVariants.{Unsatisfiable}
-use Rattle.scr_decide.specs.Decisions.{IsDecision, IsExcluded}
 use Rattle.scr_goals.specs.Formulas.{related_where}
 use Rattle.scr_verdict.specs.Related.{AreRelated}
 
@@ -55,12 +51,3 @@ module _ (spec : Data) (order need : List ℕ) where
             some_same : Some e.1 ≡ Some ids → e.1 ≡ ids
             some_same g = grind arith
         by Greater same rest f = rest f h.1
-
-  -- a formula that is listed by itself leaves them
-  pub AreRelated-listed : {E : Type 0} (old new : Held) (f : Formula) (r : Result Decision E) (es : List (ℕ × Vec ℕ Global)) → IfOk r (IsDecision old new f) → AreRelated old spec order need es
-      → IfOk r (λ decision. decision ≡ Unsatisfiable → AreRelated new spec order need es)
-  AreRelated-listed old new f (Ok d) es h related = λ e. AreRelated-later old new es (excluded d e h).listed.keeps related
-    where
-      excluded : (decision : Decision) → decision ≡ Unsatisfiable → IsDecision old new f decision → IsExcluded old new f
-      excluded decision e given = subst (IsDecision old new f) e given
-  AreRelated-listed old new f (Err e) es h related = h
