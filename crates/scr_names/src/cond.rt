@@ -174,7 +174,7 @@ impl Known {
     fn conds_of(&self, alloc: Global, conds: &[DraftCond]) -> Result<Items<Cond>, NoMemory>
         ensures { IfOk result (λ made. made ≡ map (spec.cond_of self.now) conds.now) }
     {
-        let mut parts = Items::new(alloc);
+        let mut parts = Items::from_vec(Vec::with_capacity(alloc, conds.len())?);
         for cond in conds {
             let part = self.cond_of(alloc, cond)?;
             parts.push(part)?;

@@ -200,7 +200,7 @@ impl Known {
     pub fn event_of(&self, alloc: Global, event: &DraftEvent) -> Result<Event, NoMemory>
         ensures { IfOk result (λ made. made ≡ spec.event_of self.now event.now) }
     {
-        let mut prims = Items::new(alloc);
+        let mut prims = Items::from_vec(Vec::with_capacity(alloc, event.prims.len())?);
         for prim in event.prims.as_slice() {
             let prim = self.prim_of(alloc, prim)?;
             prims.push(prim)?;

@@ -28,6 +28,7 @@ impl Model for Names {
 }
 
 impl Names {
+    /// Before the first name.
     pub fn new(alloc: Global) -> Names
         ensures { result ≡ [] }
     {

@@ -110,7 +110,7 @@ impl Known {
     pub fn side_of(&self, alloc: Global, side: &DraftSide) -> Result<Expr, NoMemory>
         ensures { IfOk result (λ made. made ≡ spec.side_of self.now side.now) }
     {
-        let mut items = Items::new(alloc);
+        let mut items = Items::from_vec(Vec::with_capacity(alloc, side.items.len())?);
         for item in side.items.as_slice() {
             items.push(self.item_of(item))?;
         }

@@ -117,7 +117,7 @@ pub(crate) fn read_event(
     ensures refused { result ≡ Err FormFault.Refused
         → (prims : List DraftPrim) (rest : List Word) → Event (words tokens.now) prims rest → ⊥ }
 {
-    let mut prims = Items::new(alloc);
+    let mut prims = Items::from_vec(Vec::with_capacity(alloc, 1)?);
     let mut here = tokens;
     'prims: loop {
         let (prim, after) = read_prim(alloc, here)?;

@@ -167,7 +167,7 @@ pub(crate) fn read_side(
     ensures refused { result ≡ Err FormFault.Refused
         → (l : DraftSide) (rest : List Word) → Side primes (words tokens.now) l rest → ⊥ }
 {
-    let mut items = Items::new(alloc);
+    let mut items = Items::from_vec(Vec::with_capacity(alloc, 1)?);
     let (mut minus, mut here) = past_minus(tokens);
     'items: loop {
         let (item, after) = read_item(alloc, primes, here)?;

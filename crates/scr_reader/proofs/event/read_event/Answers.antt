@@ -8,7 +8,7 @@ use Rattle.scr_reader.proofs.event.read_event.Goals as goal
 pub returns-in_err-prim-clause-refused : goal.returns-in_err-prim-clause-refused
 returns-in_err-prim-clause-refused c never ps rest h =
     let first = first_prim (c.prims.invariant.back ps rest h).1 in
-    let p = err_from_is_err_and c.from_residual.result c.from_residual.ensures.1 in
+    let p = err_from_is_err_and c.from_residual-in_err-prim.result c.from_residual-in_err-prim.ensures.1 in
     c.in_err-prim.ensures.refused (handed_on p.1 p.2 never) first.0 first.1 first.2
 
 pub prims-preserved : goal.prims-preserved

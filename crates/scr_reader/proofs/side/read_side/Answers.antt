@@ -7,7 +7,7 @@ use Rattle.scr_reader.proofs.side.read_side.Goals as goal
 
 pub items-init : goal.items-init
 items-init c = let at = c.past_minus-minus in record {
-  onward = λ items end h. rw c.new-items.ensures (side_of_signed at.result.0 at.ensures.sign h);
+  onward = λ items end h. rw (c.from_vec-items.ensures, c.in_ok-with_capacity.ensures.items) (side_of_signed at.result.0 at.ensures.sign h);
   back = λ side end h. signed_of_side at.result.0 at.ensures.sign h;
   no_longer = at.ensures.no_longer;
 }
@@ -15,7 +15,7 @@ items-init c = let at = c.past_minus-minus in record {
 pub returns-in_err-item-clause-refused : goal.returns-in_err-item-clause-refused
 returns-in_err-item-clause-refused c never l rest h =
     let first = first_item (c.items.invariant.back l rest h).1 in
-    let p = err_from_is_err_and c.from_residual.result c.from_residual.ensures.1 in
+    let p = err_from_is_err_and c.from_residual-in_err-item.result c.from_residual-in_err-item.ensures.1 in
     c.in_err-item.ensures.refused (handed_on p.1 p.2 never) first.0 first.1 first.2
 
 pub items-preserved : goal.items-preserved
