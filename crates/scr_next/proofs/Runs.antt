@@ -149,7 +149,7 @@ leads_push step at (i ∷ []) [] old input new x s = (x.0, (s, tt))
 leads_push step at (i ∷ j ∷ inputs) [] old input new x s = absurd x.1
 leads_push step at (i ∷ inputs) (t ∷ states) old input new x s = (x.0, leads_push step t inputs states old input new x.1 s)
 
-run_push : (spec : Data) (inputs : List Input) (before : List Codes) (old : Codes) (input : Input) (new : Codes) → IsRun spec inputs (before ++ old ∷ []) → IsStep spec old input new
+pub run_push : (spec : Data) (inputs : List Input) (before : List Codes) (old : Codes) (input : Input) (new : Codes) → IsRun spec inputs (before ++ old ∷ []) → IsStep spec old input new
     → IsRun spec (inputs ++ input ∷ []) ((before ++ old ∷ []) ++ new ∷ [])
 run_push spec [] [] old input new x s = (x.0, (s, tt))
 run_push spec (i ∷ inputs) [] old input new x s = absurd x.1

@@ -13,6 +13,7 @@ pub enum ScriptKind {
     Value,
     NoChange,
     Nat,
+    Back,
 }
 
 fn script_kind_word(kind: ScriptKind) -> &'static str
@@ -25,6 +26,7 @@ fn script_kind_word(kind: ScriptKind) -> &'static str
         ScriptKind::Value => "value",
         ScriptKind::NoChange => "nochange",
         ScriptKind::Nat => "nat",
+        ScriptKind::Back => "back",
     }
 }
 

@@ -5,4 +5,6 @@ mod fault;
 mod word;
 
 pub use fault::{ScriptKind, push_script_fault};
-pub use word::{are_word_bytes, body_of, cut_word, first_and_rest, is_number, is_readable};
+pub use word::{
+    are_digits, are_word_bytes, body_of, cut_word, first_and_rest, is_number, is_readable,
+};

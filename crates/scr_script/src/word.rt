@@ -104,7 +104,8 @@ fn all_digits(bytes: &[u8]) -> bool
     bytes.iter().all(|b| b.is_ascii_digit())
 }
 
-fn are_digits(bytes: &[u8]) -> bool
+/// Whether it is digits alone, one or more.
+pub fn are_digits(bytes: &[u8]) -> bool
     ensures { result ≡ are_digits bytes.now }
 {
     match first_and_rest(bytes) {

@@ -1,5 +1,8 @@
 //! Why a script line holds no input.
+ghost use Rattle.std.specs.Prelude.{◌≡◌};
+ghost use Rattle.scr_simulator.specs.Faults.{kind_of};
 
+use scr_script::ScriptKind;
 use thiserror::Error;
 
 /// The first thing that is wrong with a script line, in the order in which it is looked for.
@@ -20,4 +23,17 @@ pub enum ScriptFault {
     /// The value differs from the present one by more than the bound.
     #[error("the change passes the bound")]
     Nat,
+}
+
+/// The kind that is printed of a fault.
+pub fn kind_of(fault: ScriptFault) -> ScriptKind
+    ensures { result ≡ kind_of fault }
+{
+    match fault {
+        ScriptFault::Syntax => ScriptKind::Syntax,
+        ScriptFault::Unknown => ScriptKind::Unknown,
+        ScriptFault::Value => ScriptKind::Value,
+        ScriptFault::NoChange => ScriptKind::NoChange,
+        ScriptFault::Nat => ScriptKind::Nat,
+    }
 }

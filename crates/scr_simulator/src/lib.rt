@@ -8,7 +8,7 @@ mod simulator;
 mod value;
 mod word;
 
-pub use fault::ScriptFault;
+pub use fault::{ScriptFault, kind_of};
 pub use law::{lines_hold_inputs, one_script};
 pub use script::read_line;
 pub use simulator::Simulator;

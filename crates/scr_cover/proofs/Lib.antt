@@ -1,0 +1,4 @@
+pub mod Tallied
+pub mod Listed
+pub mod There
+pub mod Raising
