@@ -4,3 +4,4 @@ pub mod Reported
 pub mod Telling
 pub mod Checks
 pub mod First
+pub mod Scripts

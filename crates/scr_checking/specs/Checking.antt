@@ -1,5 +1,5 @@
 -- What checking a text first gives a command.
-use Rattle.std.specs.Prelude.{◌≡◌, ◌≢◌, ℕ, ⊤, List, IsTrue}
+use Rattle.std.specs.Prelude.{◌≡◌, ◌≢◌, ℕ, ⊤, List, Option, Some, None, IsTrue}
 use Rattle.scr_spec.specs.Data.{Data}
 use Rattle.scr_spec.specs.Shown.{data_of}
 use Rattle.scr_types.specs.Texts.{Spells}
@@ -7,7 +7,7 @@ use Rattle.scr_depend.specs.declared.order.Order.{Order}
 use Rattle.scr_verdict.specs.Outcomes.{IsPassed}
 use Rattle.scr_job.specs.declared.status.Status.{Status}
 use Rattle.scr_job.specs.declared.status.Status.TheVariants.{Done}
-use Rattle.scr_job.specs.Ends.{is_own}
+use Rattle.scr_job.specs.Ends.{ByFile, is_own}
 use Rattle.scr_checking.specs.declared.checking.Checking.{Checking}
 use Rattle.scr_checking.specs.declared.checking.Checking.TheVariants.{Passed, Finished}
 use Rattle.scr_checking.specs.Reports.{Reports, ChecksText}
@@ -42,3 +42,14 @@ IsChecking limit text (Finished report status) = ChecksText limit text report.it
 pub data ChecksFirst (own : Data → List ℕ → Status → Type 0) (limit : ℕ) (text : List ℕ) : List ℕ → Status → Type 0 where
   finished : {bytes : List ℕ} {status : Status} → ChecksText limit text bytes status → status ≢ Done → ChecksFirst own limit text bytes status
   passed : {bytes : List ℕ} {status : Status} (spec : Data) (order : Order) → Passes limit text spec order → own spec bytes status → ChecksFirst own limit text bytes status
+
+-- ---- with a second file
+
+-- what a command that checks first answers for its files: for a specification that passes, what it has of its own for the second one
+abbrev pub ScriptAnswers : (Data → Option (List ℕ) → List ℕ → Status → Type 0) → ℕ → Option (List ℕ) → Option (List ℕ) → List ℕ → Status → Type 0
+ScriptAnswers own limit held script = ByFile (ChecksFirst (λ spec. own spec script) limit) held
+
+-- the second file is reached where the text passes
+abbrev pub ReachesScript : ℕ → Option (List ℕ) → Type 0
+ReachesScript limit None = ⊥
+ReachesScript limit (Some text) = (spec : Data) × (order : Order) × Passes limit text spec order

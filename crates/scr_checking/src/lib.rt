@@ -10,3 +10,4 @@ mod verdicts;
 pub use checking::{Checking, check_file, check_text, passed_report};
 pub use law::one_checking;
 pub use spelling::{Spelling, spell_file, spell_text};
+pub use verdicts::{has_no, is_no, is_undecided};

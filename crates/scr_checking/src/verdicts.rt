@@ -10,7 +10,8 @@ use scr_spec::Spec;
 use scr_text::NoMemory;
 use scr_verdict::Verdict;
 
-fn is_no(verdict: &Verdict) -> bool
+/// Whether it is a no.
+pub fn is_no(verdict: &Verdict) -> bool
     ensures { result ≡ answer.is_no verdict.now }
 {
     match verdict {
@@ -19,7 +20,8 @@ fn is_no(verdict: &Verdict) -> bool
     }
 }
 
-fn is_undecided(verdict: &Verdict) -> bool
+/// Whether it is undecided.
+pub fn is_undecided(verdict: &Verdict) -> bool
     ensures { result ≡ answer.is_undecided verdict.now }
 {
     match verdict {
@@ -28,7 +30,8 @@ fn is_undecided(verdict: &Verdict) -> bool
     }
 }
 
-fn has_no(verdicts: &[Verdict]) -> bool
+/// Whether one of them is a no.
+pub fn has_no(verdicts: &[Verdict]) -> bool
     ensures { result ≡ list_any answer.is_no verdicts.now }
 {
     verdicts.iter().any(|verdict| is_no(verdict))

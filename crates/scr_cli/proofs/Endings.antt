@@ -1,5 +1,5 @@
 -- How a run ends, by how its command did.
-use Rattle.std.proofs.Common.{◌≡◌, ◌⊎◌, List, ℕ, Option, None, IsTrue, inl, inr}
+use Rattle.std.proofs.Common.{◌≡◌, ◌⊎◌, List, ℕ, Option, IsTrue, inl, inr}
 use Rattle.std.proofs.lemmas.Bool.{false≢true}
 use Rattle.scr_job.specs.declared.status.Status.{Status}
 use Rattle.scr_job.specs.declared.status.Status.TheVariants as status

@@ -5,21 +5,24 @@ use Rattle.scr_job.specs.declared.status.Status.{Status}
 use Rattle.scr_job.specs.declared.status.Status.TheVariants.{Usage, Done}
 use Rattle.scr_job.specs.Ends.{Files, Answer, ByFile, IsFront}
 use Rattle.scr_checking.specs.Reports.{ChecksText}
-use Rattle.scr_simulate.specs.Simulates.{SimulateAnswers, ReachesScript}
+use Rattle.scr_checking.specs.Checking.{ReachesScript}
+use Rattle.scr_simulate.specs.Simulates.{SimulateAnswers}
 use Rattle.scr_derive.specs.Derives.{DerivesFile}
 use Rattle.scr_emit.specs.Emits.{Emits}
 use Rattle.scr_format.specs.Formats.{Formats}
 use Rattle.scr_runc.specs.Runs.{RunCAnswers, ReachesCalls}
 use Rattle.scr_generate.specs.Chain.{chain_text}
 use Rattle.scr_large.specs.Summaries.{LargeAnswers}
+use Rattle.scr_coverage.specs.Covers.{CoverAnswers}
+use Rattle.scr_replay.specs.Replays.{ReplayAnswers}
 use Rattle.scr_cli.specs.declared.form.Form.{Form}
-use Rattle.scr_cli.specs.declared.form.Form.TheVariants.{Check, Simulate, Invariants, Emit, Format, RunC, Generate, Large}
+use Rattle.scr_cli.specs.declared.form.Form.TheVariants.{Check, Simulate, Invariants, Emit, Format, RunC, Generate, Large, Cover, Replay}
 use Rattle.scr_cli.specs.Form.{form_of}
 
 -- ---- the commands
 
 abbrev pub usage_text : List ℕ
-usage_text = codes "usage: scr check|simulate|invariants|emit|format|runc|generate|large ...\n"
+usage_text = codes "usage: scr check|simulate|invariants|emit|format|runc|generate|large|cover|replay ...\n"
 
 -- of words that have no form
 abbrev pub IsUsage : List ℕ → Status → Type 0
@@ -43,6 +46,8 @@ pub data Work : Type 1 where
   by_one : (Option (List ℕ) → List ℕ → Status → Type 0) → Work
   -- one file is read whole, and where that reaches it, a second one is answered line by line
   by_lines : (Option (List ℕ) → Option (List ℕ) → List ℕ → Status → Type 0) → (Option (List ℕ) → Type 0) → Work
+  -- the same, but that one text is written, when both files have been read
+  by_both : (Option (List ℕ) → Option (List ℕ) → List ℕ → Status → Type 0) → (Option (List ℕ) → Type 0) → Work
 
 -- the work that each form asks for
 abbrev pub work_of : Option Form → Work
@@ -55,6 +60,8 @@ work_of (Some Format) = by_one Formats
 work_of (Some RunC) = by_lines RunCAnswers ReachesCalls
 work_of (Some (Generate last)) = at_once (Generates last)
 work_of (Some (Large last)) = at_once (LargeAnswers last)
+work_of (Some (Cover limit)) = by_both (CoverAnswers limit) (ReachesScript limit)
+work_of (Some (Replay limit)) = by_lines (ReplayAnswers limit) (ReachesScript limit)
 
 -- the word at a place
 abbrev pub word_at : ℕ → List (List ℕ) → List ℕ
@@ -65,31 +72,40 @@ abbrev pub WorkAnswers : Work → List (List ℕ) → Answer
 WorkAnswers (at_once answers) words files = answers
 WorkAnswers (by_one answers) words files = answers (files (word_at 1 words))
 WorkAnswers (by_lines answers reaches) words files = answers (files (word_at 1 words)) (files (word_at 2 words))
+WorkAnswers (by_both answers reaches) words files = answers (files (word_at 1 words)) (files (word_at 2 words))
+
+-- the shelf holds the first file, and the second one where it is reached
+abbrev pub HoldsBoth : Contents → (Option (List ℕ) → Type 0) → List (List ℕ) → Type 0
+HoldsBoth contents reaches words =
+    Holds contents (word_at 1 words) × IfSome contents (λ files. reaches (files (word_at 1 words)) → IsSome (files (word_at 2 words)))
 
 -- the shelf holds each file that the work reaches
 abbrev pub HoldsFiles : Contents → Work → List (List ℕ) → Type 0
 HoldsFiles contents (at_once answers) words = ⊤
 HoldsFiles contents (by_one answers) words = Holds contents (word_at 1 words)
-HoldsFiles contents (by_lines answers reaches) words =
-    Holds contents (word_at 1 words) × IfSome contents (λ files. reaches (files (word_at 1 words)) → IsSome (files (word_at 2 words)))
+HoldsFiles contents (by_lines answers reaches) words = HoldsBoth contents reaches words
+HoldsFiles contents (by_both answers reaches) words = HoldsBoth contents reaches words
 
 -- what is told of the files that the work reads: of work that reads none, all there is to tell
 abbrev pub told_for : Work → Contents → Option Files
 told_for (at_once answers) contents = Some (λ name. None)
 told_for (by_one answers) contents = contents
 told_for (by_lines answers reaches) contents = contents
+told_for (by_both answers reaches) contents = contents
 
 -- the work begins no file
 abbrev pub begins_none : Work → Bool
 begins_none (at_once answers) = true
 begins_none (by_one answers) = false
 begins_none (by_lines answers reaches) = false
+begins_none (by_both answers reaches) = false
 
 -- the work reads all its files before it writes
 abbrev pub reads_first : Work → Bool
 reads_first (at_once answers) = false
 reads_first (by_one answers) = true
 reads_first (by_lines answers reaches) = false
+reads_first (by_both answers reaches) = true
 
 -- ---- the answers to the words
 

@@ -28,6 +28,10 @@ pub enum Form {
     Generate { last: u32 },
     /// `large N`, likewise.
     Large { last: u32 },
+    /// `cover F S` and `cover F S LIMIT`, with the limit on the distinct nodes of each table.
+    Cover { limit: u32 },
+    /// `replay F S` and `replay F S LIMIT`, likewise.
+    Replay { limit: u32 },
 }
 
 /// Whether a word is the decimal text of the number, which has no sign and no leading zero.
@@ -110,6 +114,12 @@ pub(crate) fn parse(words: &[String]) -> Option<Form>
         }),
         "large" => Some(Form::Large {
             last: last_latch(rest)?,
+        }),
+        "cover" => Some(Form::Cover {
+            limit: limit_behind(2, rest)?,
+        }),
+        "replay" => Some(Form::Replay {
+            limit: limit_behind(2, rest)?,
         }),
         _ => None,
     }

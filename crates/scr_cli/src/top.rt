@@ -9,12 +9,14 @@ ghost use Rattle.scr_cli.specs.Answers.{Answers, OneAnswer, IsUsage, HoldsFiles,
 use crate::check::Check;
 use crate::form::{Form, parse};
 use crate::generate::Generate;
+use scr_coverage::Cover;
 use scr_derive::Invariants;
 use scr_emit::Emit;
 use scr_format::Format;
 use scr_io::{Shelf, Sink};
 use scr_job::{Status, Stop, put, respond, respond_by_lines, respond_fileless};
 use scr_large::Large;
+use scr_replay::Replay;
 use scr_runc::RunC;
 use scr_simulate::Simulate;
 use std::alloc::Global;
@@ -29,7 +31,7 @@ fn usage<K: Sink>(out: &mut K) -> Result<Status, Stop>
 {
     put(
         out,
-        b"usage: scr check|simulate|invariants|emit|format|runc|generate|large ...\n",
+        b"usage: scr check|simulate|invariants|emit|format|runc|generate|large|cover|replay ...\n",
     )?;
     Ok(Status::Usage)
 }
@@ -97,6 +99,28 @@ fn dispatch<S: Shelf, K: Sink>(
         ),
         Some(Form::Generate { last }) => respond_fileless(&Generate { last }, alloc, out),
         Some(Form::Large { last }) => respond_fileless(&Large { last }, alloc, out),
+        Some(Form::Cover { limit }) => {
+            let command = Cover { nodes: limit };
+            respond_by_lines(
+                &command,
+                alloc,
+                words[1].as_str(),
+                words[2].as_str(),
+                shelf,
+                out,
+            )
+        }
+        Some(Form::Replay { limit }) => {
+            let command = Replay { nodes: limit };
+            respond_by_lines(
+                &command,
+                alloc,
+                words[1].as_str(),
+                words[2].as_str(),
+                shelf,
+                out,
+            )
+        }
     }
 }
 
@@ -107,7 +131,7 @@ fn dispatch<S: Shelf, K: Sink>(
 ///   an answer that is defined for these words and contents, and the status is that answer's. With
 ///   a fault it appended the front of such an answer, with `WriteFault` not all of it. For words that
 ///   begin no file it is so on every shelf.
-/// - `nothing`: with `ReadFault`, words whose file is read whole before a byte is written have
+/// - `nothing`: with `ReadFault`, words whose files are all read before a byte is written have
 ///   appended nothing.
 /// - `read_cause`, `write_cause`: a fault comes only where the shelf, or the sink, failed in this call.
 /// - `usage`, `no_form`: `Usage` comes only from words that have no form, and these end with it, or with

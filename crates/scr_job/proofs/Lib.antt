@@ -3,3 +3,4 @@ pub mod WalkLemmas
 pub mod FileLemmas
 pub mod CommandLemmas
 pub mod ClosingLemmas
+pub mod GatherLemmas

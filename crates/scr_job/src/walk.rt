@@ -19,7 +19,7 @@ pub const SCRIPT_LIMIT: usize = 16_777_216;
 const FLUSH_SIZE: usize = 32_768;
 
 /// Answers what comes next in the file.
-fn turn<L: Session, S: Shelf>(
+pub(crate) fn turn<L: Session, S: Shelf>(
     session: &mut L,
     lines: &mut Lines,
     shelf: &mut S,

@@ -43,7 +43,7 @@ use Rattle.scr_job.specs.Ends.{IsFront, is_own}
 use Rattle.scr_checking.specs.Reports.{all_yes, verdicts_status}
 use Rattle.scr_checking.proofs.Lines.{yes_verdicts}
 use Rattle.scr_checking.proofs.Statuses.{verdicts_final}
-use Rattle.scr_simulate.specs.Simulates.{kind_of}
+use Rattle.scr_simulator.specs.Faults.{kind_of}
 use Rattle.scr_generate.specs.Chain.{chain_text}
 use Rattle.dd_store.specs.declared.store.TheConstants.{NODE_LIMIT}
 use Rattle.scr_large.specs.Texts.{number_line, counts_of, checked_text}

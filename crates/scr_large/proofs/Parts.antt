@@ -21,7 +21,7 @@ use Rattle.scr_job.specs.declared.status.Status.TheVariants.{Done, SpecRefused, 
 use Rattle.scr_job.specs.Ends.{is_own}
 use Rattle.scr_checking.specs.Reports.{all_yes}
 use Rattle.scr_checking.specs.Spelling.{IsRefusedWith}
-use Rattle.scr_simulate.specs.Simulates.{kind_of}
+use Rattle.scr_simulator.specs.Faults.{kind_of}
 use Rattle.scr_large.specs.declared.run.FaultyLine.{FaultyLine}
 use Rattle.dd_store.specs.declared.store.TheConstants.{NODE_LIMIT}
 use Rattle.scr_large.specs.Texts.{number_line, counts_of, checked_text}

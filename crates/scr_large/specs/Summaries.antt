@@ -27,7 +27,7 @@ use Rattle.scr_report.specs.Runs.{state_text}
 use Rattle.scr_job.specs.declared.status.Status.{Status}
 use Rattle.scr_job.specs.declared.status.Status.TheVariants.{Done, Findings, SpecRefused, ScriptRefused, Undecided}
 use Rattle.scr_checking.specs.Reports.{verdicts_status, all_yes}
-use Rattle.scr_simulate.specs.Simulates.{kind_of}
+use Rattle.scr_simulator.specs.Faults.{kind_of}
 use Rattle.scr_generate.specs.Chain.{chain_text}
 use Rattle.dd_store.specs.declared.store.TheConstants.{NODE_LIMIT}
 use Rattle.scr_large.specs.Texts.{number_line, counts_of, checked_text}

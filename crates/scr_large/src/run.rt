@@ -10,8 +10,7 @@ use scr_depend::Checked;
 use scr_job::Status;
 use scr_report::push_state;
 use scr_script::push_script_fault;
-use scr_simulate::kind_of;
-use scr_simulator::{ScriptFault, Simulator};
+use scr_simulator::{ScriptFault, Simulator, kind_of};
 use scr_text::NoMemory;
 use std::alloc::Global;
 

@@ -12,8 +12,9 @@ ghost use Rattle.dd_store.specs.declared.store.TheConstants.{NODE_LIMIT};
 ghost use Rattle.scr_large.specs.Summaries.{SpecSummary};
 
 use crate::invariants::summarize_passed;
-use crate::text::{all_yes, checked_text, counts_of, has_no};
+use crate::text::{all_yes, checked_text, counts_of};
 use dd_store::NODE_LIMIT;
+use scr_checking::has_no;
 use scr_depend::Checked;
 use scr_job::Status;
 use scr_report::push_cycle;

@@ -1,11 +1,11 @@
 //! The lines of a summary.
 ghost use Rattle.std.specs.Prelude.{◌≡◌, count_by, IfOk, string_bytes};
-ghost use Rattle.std.specs.List.{list_any};
 ghost use Rattle.scr_spec.specs.Shown.{data_of};
 ghost use Rattle.scr_verdict.specs.Outcomes.{is_yes};
 ghost use Rattle.scr_checking.specs.Reports.{is_no, is_undecided, all_yes};
 ghost use Rattle.scr_large.specs.Texts as text;
 
+use scr_checking::{is_no, is_undecided};
 use scr_spec::Spec;
 use scr_text::NoMemory;
 use scr_verdict::Verdict;
@@ -27,31 +27,6 @@ fn is_yes(verdict: &Verdict) -> bool
         Verdict::Yes => true,
         Verdict::No(_, _) | Verdict::Undecided => false,
     }
-}
-
-fn is_no(verdict: &Verdict) -> bool
-    ensures { result ≡ is_no verdict.now }
-{
-    match verdict {
-        Verdict::No(_, _) => true,
-        Verdict::Yes | Verdict::Undecided => false,
-    }
-}
-
-fn is_undecided(verdict: &Verdict) -> bool
-    ensures { result ≡ is_undecided verdict.now }
-{
-    match verdict {
-        Verdict::Undecided => true,
-        Verdict::Yes | Verdict::No(_, _) => false,
-    }
-}
-
-/// Whether one is a no.
-pub(crate) fn has_no(verdicts: &[Verdict]) -> bool
-    ensures { result ≡ list_any is_no verdicts.now }
-{
-    verdicts.iter().any(|verdict| is_no(verdict))
 }
 
 fn number_of_yes(verdicts: &[Verdict]) -> usize

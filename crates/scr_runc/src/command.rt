@@ -1,5 +1,5 @@
 //! The command `runc`: the objects of a unit, and the objects after each call of a file.
-ghost use Rattle.std.specs.Prelude.{IfOk};
+ghost use Rattle.std.specs.Prelude.{IfOk, false};
 ghost use Rattle.scr_job.specs.Command.{IsOwnFirst};
 ghost use Rattle.scr_runc.specs.Firsts.{IsRefusal};
 
@@ -41,6 +41,8 @@ impl Command for RunC {
     ghost goes = { λ _ unit. RunsFile unit };
 
     ghost limit = { λ _. C_LIMIT };
+
+    ghost reads_first = { false };
 
     fn limit(&self) -> usize {
         C_LIMIT

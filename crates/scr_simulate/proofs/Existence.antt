@@ -19,7 +19,8 @@ use Rattle.scr_job.specs.Ends.{HasFront}
 use Rattle.scr_job.specs.Session.{first_line, behind, IsAnswered}
 use Rattle.scr_report.specs.Runs.{state_text}
 use Rattle.scr_script.specs.Faults.{script_fault}
-use Rattle.scr_simulate.specs.Simulates.{Simulates, closed, faulty, passed, taken, kind_of}
+use Rattle.scr_simulator.specs.Faults.{kind_of}
+use Rattle.scr_simulate.specs.Simulates.{Simulates, closed, faulty, passed, taken}
 use Rattle.scr_job.specs.Closing.{closing_text, closing_status}
 use Rattle.scr_job.proofs.ClosingLemmas.{line_some, line_there}
 

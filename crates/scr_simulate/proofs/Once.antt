@@ -13,7 +13,8 @@ use Rattle.scr_job.specs.declared.status.Status.{Status}
 use Rattle.scr_job.specs.Session.{behind}
 use Rattle.scr_report.specs.Runs.{state_text}
 use Rattle.scr_script.specs.Faults.{script_fault}
-use Rattle.scr_simulate.specs.Simulates.{Simulates, closed, faulty, passed, taken, kind_of}
+use Rattle.scr_simulator.specs.Faults.{kind_of}
+use Rattle.scr_simulate.specs.Simulates.{Simulates, closed, faulty, passed, taken}
 use Rattle.scr_job.specs.Closing.{closing_text, closing_status}
 
 abbrev Reading : Type 0

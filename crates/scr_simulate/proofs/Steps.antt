@@ -12,7 +12,8 @@ use Rattle.scr_job.specs.declared.status.Status.TheVariants.{ScriptRefused}
 use Rattle.scr_job.specs.Session.{GoesOn, IsLast, IsAnswered, behind}
 use Rattle.scr_report.specs.Runs.{state_text}
 use Rattle.scr_script.specs.Faults.{script_fault}
-use Rattle.scr_simulate.specs.Simulates.{Simulates, faulty, passed, taken, kind_of}
+use Rattle.scr_simulator.specs.Faults.{kind_of}
+use Rattle.scr_simulate.specs.Simulates.{Simulates, faulty, passed, taken}
 
 pub taken_line : (spec other : Data) (old new : Codes) (count next number : ℕ) (line before after : List ℕ) (held : Bool) → Feeds spec line old new held → held ≡ true → other ≡ spec → next ≡ count + 1
     → IsAnswered (Simulates other new next) → after ≡ before ++ state_text other next new → GoesOn (Simulates spec old count) (Simulates other new next) number line before after

@@ -7,28 +7,17 @@ use Rattle.scr_text.specs.Ends.{line_with_end}
 use Rattle.scr_spec.specs.Data.{Data}
 use Rattle.scr_spec.specs.declared.state.Input.{Input}
 use Rattle.scr_spec.specs.Meaning.{Codes}
-use Rattle.scr_depend.specs.declared.order.Order.{Order}
 use Rattle.scr_next.specs.Runs.{IsInitial, IsStep}
 use Rattle.scr_simulator.specs.declared.fault.ScriptFault.{ScriptFault}
-use Rattle.scr_simulator.specs.declared.fault.ScriptFault.TheVariants as fault
+use Rattle.scr_simulator.specs.Faults.{kind_of}
 use Rattle.scr_simulator.specs.Script.{read_line}
 use Rattle.scr_job.specs.declared.status.Status.{Status}
 use Rattle.scr_job.specs.declared.status.Status.TheVariants.{ScriptRefused}
-use Rattle.scr_job.specs.Ends.{ByFile}
 use Rattle.scr_job.specs.Session.{FileAnswers, first_line, behind}
-use Rattle.scr_script.specs.declared.fault.ScriptKind.{ScriptKind}
-use Rattle.scr_script.specs.declared.fault.ScriptKind.TheVariants as kind
 use Rattle.scr_script.specs.Faults.{script_fault}
 use Rattle.scr_job.specs.Closing.{closing_text, closing_status}
 use Rattle.scr_report.specs.Runs.{state_text}
-use Rattle.scr_checking.specs.Checking.{Passes, ChecksFirst}
-
-abbrev pub kind_of : ScriptFault → ScriptKind
-kind_of fault.Syntax = kind.Syntax
-kind_of fault.Unknown = kind.Unknown
-kind_of fault.Value = kind.Value
-kind_of fault.NoChange = kind.NoChange
-kind_of fault.Nat = kind.Nat
+use Rattle.scr_checking.specs.Checking.{ScriptAnswers}
 
 -- the answer from this state on, which has this number among the states
 pub data Simulates (spec : Data) : Codes → ℕ → ℕ → ℕ → List ℕ → List ℕ → Status → Type 0 where
@@ -53,9 +42,4 @@ pub record SimulatesFile (spec : Data) (script : Option (List ℕ)) (bytes : Lis
 
 -- by the text of a specification and the script
 abbrev pub SimulateAnswers : ℕ → Option (List ℕ) → Option (List ℕ) → List ℕ → Status → Type 0
-SimulateAnswers limit held script = ByFile (ChecksFirst (λ spec. SimulatesFile spec script) limit) held
-
--- the script is reached where the text passes
-abbrev pub ReachesScript : ℕ → Option (List ℕ) → Type 0
-ReachesScript limit None = ⊥
-ReachesScript limit (Some text) = (spec : Data) × (order : Order) × Passes limit text spec order
+SimulateAnswers = ScriptAnswers SimulatesFile

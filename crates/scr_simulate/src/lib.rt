@@ -7,4 +7,4 @@ mod simulation;
 
 pub use law::one_simulation;
 pub use simulate::Simulate;
-pub use simulation::{Simulation, kind_of};
+pub use simulation::Simulation;

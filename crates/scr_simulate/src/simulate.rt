@@ -1,5 +1,5 @@
 //! The command `simulate`: the initial state, and the state after each input of a script.
-ghost use Rattle.std.specs.Prelude.{◌≤◌};
+ghost use Rattle.std.specs.Prelude.{◌≤◌, false};
 ghost use Rattle.dd_store.specs.declared.store.TheConstants.{NODE_LIMIT};
 
 use crate::simulation::Simulation;
@@ -21,7 +21,8 @@ pub struct Simulate {
 impl Command for Simulate {
     ghost use Rattle.scr_spec.specs.Shown.{data_of};
     ghost use Rattle.scr_reader.specs.declared.text.TheConstants.{TEXT_LIMIT};
-    ghost use Rattle.scr_simulate.specs.Simulates.{SimulatesFile, SimulateAnswers, ReachesScript};
+    ghost use Rattle.scr_checking.specs.Checking.{ReachesScript};
+    ghost use Rattle.scr_simulate.specs.Simulates.{SimulatesFile, SimulateAnswers};
 
     type Base = Checked;
 
@@ -32,6 +33,8 @@ impl Command for Simulate {
     ghost goes = { λ _ checked. SimulatesFile (data_of checked.spec) };
 
     ghost limit = { λ _. TEXT_LIMIT };
+
+    ghost reads_first = { false };
 
     fn limit(&self) -> usize {
         TEXT_LIMIT

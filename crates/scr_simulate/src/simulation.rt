@@ -2,14 +2,13 @@
 ghost use Rattle.std.specs.Prelude.{◌≡◌, ◌≢◌, ◌++◌, OnOk, IfOk};
 ghost use Rattle.scr_spec.specs.Shown.{data_of};
 ghost use Rattle.scr_next.specs.Runs.{IsInitial};
-ghost use Rattle.scr_simulate.specs.Simulates.{kind_of};
 
 use scr_depend::Checked;
 use scr_io::Piece;
 use scr_job::{Session, Status, push_closing};
 use scr_report::push_state;
-use scr_script::{ScriptKind, push_script_fault};
-use scr_simulator::{ScriptFault, Simulator};
+use scr_script::push_script_fault;
+use scr_simulator::{Simulator, kind_of};
 use scr_text::NoMemory;
 use std::alloc::Global;
 
@@ -33,19 +32,6 @@ impl<'a> Simulation<'a> {
             simulator,
             count: 0,
         })
-    }
-}
-
-/// The kind that is printed of a fault.
-pub fn kind_of(fault: ScriptFault) -> ScriptKind
-    ensures { result ≡ kind_of fault }
-{
-    match fault {
-        ScriptFault::Syntax => ScriptKind::Syntax,
-        ScriptFault::Unknown => ScriptKind::Unknown,
-        ScriptFault::Value => ScriptKind::Value,
-        ScriptFault::NoChange => ScriptKind::NoChange,
-        ScriptFault::Nat => ScriptKind::Nat,
     }
 }
 

@@ -4,7 +4,7 @@ use Rattle.scr_spec.specs.Shown.{data_of}
 use Rattle.scr_depend.specs.declared.checked.Checked.{Checked}
 use Rattle.scr_script.specs.Faults.{script_fault}
 use Rattle.scr_report.specs.Runs.{state_text}
-use Rattle.scr_simulate.specs.Simulates.{kind_of}
+use Rattle.scr_simulator.specs.Faults.{kind_of}
 use Rattle.scr_large.specs.Texts.{number_line}
 use Rattle.scr_large.proofs.Parts.{run_stops, run_ends}
 use Rattle.scr_large.proofs.run.summarize_run.Goals as goal

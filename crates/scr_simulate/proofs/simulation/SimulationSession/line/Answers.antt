@@ -5,7 +5,8 @@ use Rattle.scr_job.specs.Session.{IsAnswered}
 use Rattle.scr_report.specs.Runs.{state_text}
 use Rattle.scr_script.specs.Faults.{script_fault}
 use Rattle.scr_simulator.proofs.Reached.{reached_consistent}
-use Rattle.scr_simulate.specs.Simulates.{Simulates, kind_of}
+use Rattle.scr_simulator.specs.Faults.{kind_of}
+use Rattle.scr_simulate.specs.Simulates.{Simulates}
 use Rattle.scr_simulate.proofs.Existence.{some_answer}
 use Rattle.scr_simulate.proofs.Steps.{taken_line, passed_line, faulty_line}
 use Rattle.scr_simulate.proofs.simulation.SimulationSession.line.Goals as goal

@@ -1,0 +1,5 @@
+pub mod Once
+pub mod Steps
+pub mod Existence
+pub mod Files
+pub mod Same

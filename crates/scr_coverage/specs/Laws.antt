@@ -1,0 +1,22 @@
+-- The law of coverage.
+use Rattle.std.specs.Prelude.{◌≡◌, ℕ, List, [], Option}
+use Rattle.scr_spec.specs.Data.{Data}
+use Rattle.scr_spec.specs.Meaning.{Codes}
+use Rattle.scr_depend.specs.declared.order.Order.{Order}
+use Rattle.scr_depend.specs.Passes.{PassesChecks}
+use Rattle.scr_next.specs.Runs.{IsConsistent}
+use Rattle.scr_job.specs.declared.status.Status.{Status}
+use Rattle.scr_job.specs.Ends.{IsFront, HasFront}
+use Rattle.scr_coverage.specs.Covers.{Covers, CoversFile, CoverAnswers}
+
+pub record OneCoverage : Type 0 where
+  -- from a consistent state on, a rest of a script has one answer
+  pub once : (spec : Data) (order : Order) (first : Codes) (states : List Codes) (at : Codes) (number room : ℕ) (rest x y : List ℕ) (i j : Status) → PassesChecks spec order → IsConsistent spec at
+      → Covers spec first states at number room rest x i → Covers spec first states at number room rest y j → (x ≡ y) × (i ≡ j)
+  -- a specification that passes has one answer to a script
+  pub file_once : (spec : Data) (order : Order) (script : Option (List ℕ)) (x y : List ℕ) (i j : Status) → PassesChecks spec order → CoversFile spec script x i → CoversFile spec script y j
+      → (x ≡ y) × (i ≡ j)
+  pub file_some : (spec : Data) (order : Order) (script : Option (List ℕ)) → PassesChecks spec order → HasFront (CoversFile spec script) []
+  -- files have one answer of `cover`, and never none
+  pub one : (limit : ℕ) (held script : Option (List ℕ)) (x y : List ℕ) (i j : Status) → CoverAnswers limit held script x i → CoverAnswers limit held script y j → (x ≡ y) × (i ≡ j)
+  pub never_none : (limit : ℕ) (held script : Option (List ℕ)) → IsFront (CoverAnswers limit held script) []

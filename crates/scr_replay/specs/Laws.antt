@@ -1,0 +1,23 @@
+-- The law of replays.
+use Rattle.std.specs.Prelude.{◌≡◌, ℕ, List, [], Option}
+use Rattle.scr_spec.specs.Data.{Data}
+use Rattle.scr_spec.specs.declared.state.Input.{Input}
+use Rattle.scr_spec.specs.Meaning.{Codes}
+use Rattle.scr_depend.specs.declared.order.Order.{Order}
+use Rattle.scr_depend.specs.Passes.{PassesChecks}
+use Rattle.scr_next.specs.Runs.{EndsIn}
+use Rattle.scr_job.specs.declared.status.Status.{Status}
+use Rattle.scr_job.specs.Ends.{IsFront, HasFront}
+use Rattle.scr_replay.specs.Replays.{Replays, ReplaysFile, ReplayAnswers}
+
+pub record OneReplay : Type 0 where
+  -- from a state of a run on, a rest of a script has one answer
+  pub once : (spec : Data) (order : Order) (inputs : List Input) (depth : ℕ) (at : Codes) (number room : ℕ) (rest x y : List ℕ) (i j : Status) → PassesChecks spec order → EndsIn spec inputs at
+      → Replays spec inputs depth at number room rest x i → Replays spec inputs depth at number room rest y j → (x ≡ y) × (i ≡ j)
+  -- a specification that passes has one answer to a script
+  pub file_once : (spec : Data) (order : Order) (script : Option (List ℕ)) (x y : List ℕ) (i j : Status) → PassesChecks spec order → ReplaysFile spec script x i → ReplaysFile spec script y j
+      → (x ≡ y) × (i ≡ j)
+  pub file_some : (spec : Data) (order : Order) (script : Option (List ℕ)) → PassesChecks spec order → HasFront (ReplaysFile spec script) []
+  -- files have one answer of `replay`, and never none
+  pub one : (limit : ℕ) (held script : Option (List ℕ)) (x y : List ℕ) (i j : Status) → ReplayAnswers limit held script x i → ReplayAnswers limit held script y j → (x ≡ y) × (i ≡ j)
+  pub never_none : (limit : ℕ) (held script : Option (List ℕ)) → IsFront (ReplayAnswers limit held script) []

@@ -1,0 +1,8 @@
+//! The law of replays.
+ghost use Rattle.scr_replay.specs.Laws.{OneReplay};
+
+/// A specification that passed its checks has one answer to a script that may step back, and files have
+/// one answer of `replay`, and never none.
+pub fn one_replay()
+    ensures { OneReplay }
+{}
