@@ -3,3 +3,4 @@ pub mod Checked
 pub mod OneAnswer
 pub mod Printed
 pub mod Endings
+pub mod Sliced

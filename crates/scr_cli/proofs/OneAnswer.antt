@@ -3,9 +3,9 @@ use Rattle.std.proofs.Common.{◌≡◌, ℕ, List, [], Option, None, Some, refl
 use Rattle.scr_job.specs.declared.status.Status.{Status}
 use Rattle.scr_job.specs.Ends.{Files, IsFront}
 use Rattle.scr_cli.specs.declared.form.Form.{Form}
-use Rattle.scr_cli.specs.declared.form.Form.TheVariants.{Check, Simulate, Invariants, Emit, Format, RunC, Generate, Large, Cover, Replay}
+use Rattle.scr_cli.specs.declared.form.Form.TheVariants.{Check, Simulate, Invariants, Emit, Format, RunC, Generate, Large, Cover, Replay, Slice}
 use Rattle.scr_cli.specs.Form.{form_of}
-use Rattle.scr_cli.specs.Answers.{word_at, work_of, WorkAnswers, OneAnswer}
+use Rattle.scr_cli.specs.Answers.{word_at, names_in, work_of, WorkAnswers, OneAnswer}
 use Rattle.scr_simulate.proofs.Files.{one_simulation}
 use Rattle.scr_derive.proofs.Derived.{one_derivation}
 use Rattle.scr_emit.proofs.Emitting.{one_emission}
@@ -14,10 +14,11 @@ use Rattle.scr_runc.proofs.Files.{one_answer_of_calls}
 use Rattle.scr_large.proofs.Once.{one_summary}
 use Rattle.scr_coverage.proofs.Files.{one_coverage}
 use Rattle.scr_replay.proofs.Files.{one_replay}
+use Rattle.scr_slicing.proofs.Files.{one_slicing}
 use Rattle.scr_cli.proofs.Checked.{checks_once, some_checks}
 
 form_once : (f : Option Form) (words : List (List ℕ)) (files : Files) (x y : List ℕ) (i j : Status)
-    → WorkAnswers (work_of f) words files x i → WorkAnswers (work_of f) words files y j → (x ≡ y) × (i ≡ j)
+    → WorkAnswers (work_of words f) words files x i → WorkAnswers (work_of words f) words files y j → (x ≡ y) × (i ≡ j)
 form_once None words files x y i j a b = (a.0 ∙ sym b.0, a.1 ∙ sym b.1)
 form_once (Some (Check limit)) words files x y i j a b = checks_once limit (files (word_at 1 words)) x y i j a b
 form_once (Some (Simulate limit)) words files x y i j a b = one_simulation.one limit (files (word_at 1 words)) (files (word_at 2 words)) x y i j a b
@@ -29,8 +30,9 @@ form_once (Some (Generate last)) words files x y i j a b = (a.0 ∙ sym b.0, a.1
 form_once (Some (Large last)) words files x y i j a b = one_summary.once last x y i j a b
 form_once (Some (Cover limit)) words files x y i j a b = one_coverage.one limit (files (word_at 1 words)) (files (word_at 2 words)) x y i j a b
 form_once (Some (Replay limit)) words files x y i j a b = one_replay.one limit (files (word_at 1 words)) (files (word_at 2 words)) x y i j a b
+form_once (Some (Slice names limit)) words files x y i j a b = one_slicing.once (names_in names words) limit (files (word_at 1 words)) x y i j a b
 
-some_form : (f : Option Form) (words : List (List ℕ)) (files : Files) → IsFront (WorkAnswers (work_of f) words files) []
+some_form : (f : Option Form) (words : List (List ℕ)) (files : Files) → IsFront (WorkAnswers (work_of words f) words files) []
 some_form None words files none = none _ _ (refl, refl)
 some_form (Some (Check limit)) words files none = some_checks limit (files (word_at 1 words)) none
 some_form (Some (Simulate limit)) words files none = one_simulation.never_none limit (files (word_at 1 words)) (files (word_at 2 words)) none
@@ -42,6 +44,7 @@ some_form (Some (Generate last)) words files none = none _ _ (refl, refl)
 some_form (Some (Large last)) words files none = one_summary.some last none
 some_form (Some (Cover limit)) words files none = one_coverage.never_none limit (files (word_at 1 words)) (files (word_at 2 words)) none
 some_form (Some (Replay limit)) words files none = one_replay.never_none limit (files (word_at 1 words)) (files (word_at 2 words)) none
+some_form (Some (Slice names limit)) words files none = one_slicing.some (names_in names words) limit (files (word_at 1 words)) none
 
 pub one_answer : OneAnswer
 one_answer = record {

@@ -6,22 +6,24 @@ use Rattle.scr_checking.specs.Reports.{ChecksText}
 use Rattle.scr_checking.proofs.Checks.{one_checking}
 use Rattle.scr_derive.specs.Derives.{DerivesText, DerivesFile}
 use Rattle.scr_derive.proofs.Derived.{one_derivation}
-use Rattle.scr_cli.specs.declared.form.Form.TheVariants.{Check, Invariants}
+use Rattle.scr_slicing.specs.Slicing.{SlicesFile}
+use Rattle.scr_slicing.proofs.Files.{one_slicing}
+use Rattle.scr_cli.specs.declared.form.Form.TheVariants.{Check, Invariants, Slice}
 use Rattle.scr_cli.specs.Form.{form_of}
-use Rattle.scr_cli.specs.Answers.{word_at, work_of, WorkAnswers, Answers, Checks}
-use Rattle.scr_cli.specs.Holds.{PrintedRight, PrintedHold}
+use Rattle.scr_cli.specs.Answers.{word_at, names_in, work_of, WorkAnswers, Answers, Checks}
+use Rattle.scr_cli.specs.Holds.{PrintedRight, PrintedHold, PrintedSlice}
 
 -- such an answer is what is derived for the text
 derives : (words : List (List ℕ)) (files : Files) (limit : ℕ) (text bytes : List ℕ) (status : Status) → form_of words ≡ Some (Invariants limit)
     → files (word_at 1 words) ≡ Some text → Answers words files bytes status → DerivesText limit text bytes status
 derives words files limit text bytes status form there answer =
-    let held : DerivesFile limit (files (word_at 1 words)) bytes status = subst (λ f. WorkAnswers (work_of f) words files bytes status) form answer in
+    let held : DerivesFile limit (files (word_at 1 words)) bytes status = subst (λ f. WorkAnswers (work_of words f) words files bytes status) form answer in
     subst (λ h. DerivesFile limit h bytes status) there held
 
 checks : (words : List (List ℕ)) (files : Files) (limit : ℕ) (text bytes : List ℕ) (status : Status) → form_of words ≡ Some (Check limit)
     → files (word_at 1 words) ≡ Some text → Answers words files bytes status → ChecksText limit text bytes status
 checks words files limit text bytes status form there answer =
-    let held : Checks limit (files (word_at 1 words)) bytes status = subst (λ f. WorkAnswers (work_of f) words files bytes status) form answer in
+    let held : Checks limit (files (word_at 1 words)) bytes status = subst (λ f. WorkAnswers (work_of words f) words files bytes status) form answer in
     subst (λ h. Checks limit h bytes status) there held
 
 pub printed_right : PrintedRight
@@ -35,4 +37,15 @@ pub printed_hold : PrintedHold
 printed_hold = record {
   hold = λ words files limit text bytes status spec order form there passes answer. one_derivation.hold limit text bytes status spec order passes (derives words files limit text bytes status form there answer);
   done = λ words files limit text bytes spec form there spelled answer. one_derivation.done limit text bytes (derives words files limit text bytes _ form there answer) spec spelled;
+}
+
+slices : (words : List (List ℕ)) (files : Files) (names limit : ℕ) (text bytes : List ℕ) (status : Status) → form_of words ≡ Some (Slice names limit)
+    → files (word_at 1 words) ≡ Some text → Answers words files bytes status → SlicesFile (names_in names words) limit (Some text) bytes status
+slices words files names limit text bytes status form there answer =
+    let held : SlicesFile (names_in names words) limit (files (word_at 1 words)) bytes status = subst (λ f. WorkAnswers (work_of words f) words files bytes status) form answer in
+    subst (λ h. SlicesFile (names_in names words) limit h bytes status) there held
+
+pub printed_slice : PrintedSlice
+printed_slice = record {
+  done = λ words files names limit text bytes form there answer. one_slicing.done (names_in names words) limit text bytes (slices words files names limit text bytes _ form there answer);
 }

@@ -1,5 +1,5 @@
 -- What the program answers for its words, and which files it reads for that.
-use Rattle.std.specs.Prelude.{◌≡◌, ⊤, ℕ, Bool, true, false, List, [], Option, None, Some, codes, slice_index_or, IfSome, IsSome}
+use Rattle.std.specs.Prelude.{◌≡◌, ⊤, ℕ, Bool, true, false, List, [], Option, None, Some, codes, slice_index_or, take, drop, IfSome, IsSome}
 use Rattle.scr_io.specs.Outside.{Contents, Holds}
 use Rattle.scr_job.specs.declared.status.Status.{Status}
 use Rattle.scr_job.specs.declared.status.Status.TheVariants.{Usage, Done}
@@ -15,14 +15,15 @@ use Rattle.scr_generate.specs.Chain.{chain_text}
 use Rattle.scr_large.specs.Summaries.{LargeAnswers}
 use Rattle.scr_coverage.specs.Covers.{CoverAnswers}
 use Rattle.scr_replay.specs.Replays.{ReplayAnswers}
+use Rattle.scr_slicing.specs.Slicing.{SlicesFile}
 use Rattle.scr_cli.specs.declared.form.Form.{Form}
-use Rattle.scr_cli.specs.declared.form.Form.TheVariants.{Check, Simulate, Invariants, Emit, Format, RunC, Generate, Large, Cover, Replay}
+use Rattle.scr_cli.specs.declared.form.Form.TheVariants.{Check, Simulate, Invariants, Emit, Format, RunC, Generate, Large, Cover, Replay, Slice}
 use Rattle.scr_cli.specs.Form.{form_of}
 
 -- ---- the commands
 
 abbrev pub usage_text : List ℕ
-usage_text = codes "usage: scr check|simulate|invariants|emit|format|runc|generate|large|cover|replay ...\n"
+usage_text = codes "usage: scr check|simulate|invariants|emit|format|runc|generate|large|cover|replay|slice ...\n"
 
 -- of words that have no form
 abbrev pub IsUsage : List ℕ → Status → Type 0
@@ -49,19 +50,27 @@ pub data Work : Type 1 where
   -- the same, but that one text is written, when both files have been read
   by_both : (Option (List ℕ) → Option (List ℕ) → List ℕ → Status → Type 0) → (Option (List ℕ) → Type 0) → Work
 
--- the work that each form asks for
-abbrev pub work_of : Option Form → Work
-work_of None = at_once IsUsage
-work_of (Some (Check limit)) = by_one (Checks limit)
-work_of (Some (Simulate limit)) = by_lines (SimulateAnswers limit) (ReachesScript limit)
-work_of (Some (Invariants limit)) = by_one (DerivesFile limit)
-work_of (Some (Emit limit)) = by_one (Emits limit)
-work_of (Some Format) = by_one Formats
-work_of (Some RunC) = by_lines RunCAnswers ReachesCalls
-work_of (Some (Generate last)) = at_once (Generates last)
-work_of (Some (Large last)) = at_once (LargeAnswers last)
-work_of (Some (Cover limit)) = by_both (CoverAnswers limit) (ReachesScript limit)
-work_of (Some (Replay limit)) = by_lines (ReplayAnswers limit) (ReachesScript limit)
+-- the words that name variables stand behind the first file
+abbrev pub names_in : ℕ → List (List ℕ) → List (List ℕ)
+names_in names words = take names (drop 2 words)
+
+-- the work that words of this form ask for
+abbrev pub work_of : List (List ℕ) → Option Form → Work
+work_of words None = at_once IsUsage
+work_of words (Some (Check limit)) = by_one (Checks limit)
+work_of words (Some (Simulate limit)) = by_lines (SimulateAnswers limit) (ReachesScript limit)
+work_of words (Some (Invariants limit)) = by_one (DerivesFile limit)
+work_of words (Some (Emit limit)) = by_one (Emits limit)
+work_of words (Some Format) = by_one Formats
+work_of words (Some RunC) = by_lines RunCAnswers ReachesCalls
+work_of words (Some (Generate last)) = at_once (Generates last)
+work_of words (Some (Large last)) = at_once (LargeAnswers last)
+work_of words (Some (Cover limit)) = by_both (CoverAnswers limit) (ReachesScript limit)
+work_of words (Some (Replay limit)) = by_lines (ReplayAnswers limit) (ReachesScript limit)
+work_of words (Some (Slice names limit)) = by_one (SlicesFile (names_in names words) limit)
+
+abbrev pub work_for : List (List ℕ) → Work
+work_for words = work_of words (form_of words)
 
 -- the word at a place
 abbrev pub word_at : ℕ → List (List ℕ) → List ℕ
@@ -110,7 +119,7 @@ reads_first (by_both answers reaches) = true
 -- ---- the answers to the words
 
 abbrev pub Answers : List (List ℕ) → Answer
-Answers words = WorkAnswers (work_of (form_of words)) words
+Answers words = WorkAnswers (work_for words) words
 
 -- words and files have one answer, and never none
 pub record OneAnswer : Type 0 where

@@ -13,9 +13,11 @@ use Rattle.scr_job.specs.Ends.{Files}
 use Rattle.scr_checking.specs.Checking.{Passes}
 use Rattle.scr_checking.specs.Tells.{TellsRight}
 use Rattle.scr_derive.specs.Laws.{PrintsWhatHolds}
-use Rattle.scr_cli.specs.declared.form.Form.TheVariants.{Check, Invariants}
+use Rattle.scr_slicing.specs.Names.{AreNumbers}
+use Rattle.scr_slicing.specs.Laws.{IsRightSlice}
+use Rattle.scr_cli.specs.declared.form.Form.TheVariants.{Check, Invariants, Slice}
 use Rattle.scr_cli.specs.Form.{form_of}
-use Rattle.scr_cli.specs.Answers.{word_at, Answers}
+use Rattle.scr_cli.specs.Answers.{word_at, names_in, Answers}
 
 -- an answer to the words of `check` on a text that spells a specification: the order and a line on each table, each of which
 -- is right, or the cycle; with `Done` the text spells one that keeps all rules, and each of whose tables is disjoint, covering
@@ -34,3 +36,10 @@ pub record PrintedHold : Type 0 where
       → files (word_at 1 words) ≡ Some text → Passes limit text spec order → Answers words files bytes status → PrintsWhatHolds spec bytes
   pub done : (words : List (List ℕ)) (files : Files) (limit : ℕ) (text bytes : List ℕ) (spec : Data) → form_of words ≡ Some (Invariants limit)
       → files (word_at 1 words) ≡ Some text → Spells text spec → Answers words files bytes Done → PrintsWhatHolds spec bytes
+
+-- an answer to the words of `slice` with `Done`: the text passes its checks, the words behind the file name variables, and what is
+-- written is the slice that they need, which passes all checks itself and whose runs are those of the whole
+pub record PrintedSlice : Type 0 where
+  pub done : (words : List (List ℕ)) (files : Files) (names limit : ℕ) (text bytes : List ℕ) → form_of words ≡ Some (Slice names limit)
+      → files (word_at 1 words) ≡ Some text → Answers words files bytes Done
+      → (spec : Data) × (order : Order) × Passes limit text spec order × (numbers : List ℕ) × AreNumbers spec (names_in names words) numbers × IsRightSlice spec numbers bytes

@@ -1,5 +1,5 @@
 //! The forms of the words.
-ghost use Rattle.std.specs.Prelude.{◌≡◌, ◌≤◌, ◌<◌, ◌^◌, decimal, map, length, string_bytes, IfSome, IsSome};
+ghost use Rattle.std.specs.Prelude.{◌≡◌, ◌+◌, ◌≤◌, ◌<◌, ◌^◌, decimal, map, length, string_bytes, IfSome, IsSome};
 ghost use Rattle.std.specs.Str.{bytes_eq};
 ghost use Rattle.dd_store.specs.declared.store.TheConstants.{NODE_LIMIT};
 ghost use Rattle.scr_generate.specs.declared.chain.TheConstants.{LAST_LATCH};
@@ -8,6 +8,7 @@ ghost use Rattle.scr_cli.specs.Form as spec;
 use dd_store::NODE_LIMIT;
 use itoa::Buffer;
 use scr_generate::LAST_LATCH;
+use scr_spec::VARIABLE_LIMIT;
 
 /// A form of words: the command, and what its words are. Its file names stand at fixed places.
 #[derive(Clone, Copy, Debug, PartialEq, Eq)]
@@ -32,6 +33,8 @@ pub enum Form {
     Cover { limit: u32 },
     /// `replay F S` and `replay F S LIMIT`, likewise.
     Replay { limit: u32 },
+    /// `slice F NAME..` and `slice F NAME.. LIMIT`, likewise, with the number of names.
+    Slice { names: usize, limit: u32 },
 }
 
 /// Whether a word is the decimal text of the number, which has no sign and no leading zero.
@@ -87,10 +90,49 @@ fn last_latch(words: &[String]) -> Option<u32>
     }
 }
 
+/// The limit by the last of the words, where one stands before it.
+fn last_limit(words: &[String]) -> Option<u32>
+    ensures exact { result ≡ spec.last_limit (map string_bytes words.now) }
+    ensures small { IfSome result (λ n. n ≤ NODE_LIMIT) }
+    ensures behind { IsSome result → 2 ≤ length words.now }
+{
+    if words.len() < 2 {
+        return None;
+    }
+    let last = words.get(words.len() - 1)?;
+    number_in(1, NODE_LIMIT, last.as_str())
+}
+
+/// So many names, if there may be so many.
+fn names_form(names: usize, limit: u32) -> Option<Form>
+    ensures exact { result ≡ spec.names_form names limit }
+    ensures named { IfSome result (λ form. spec.name_count form ≡ 1 + names) }
+    ensures limited { limit ≤ NODE_LIMIT → IfSome result spec.IsLimited }
+{
+    if 1 <= names && names <= VARIABLE_LIMIT {
+        Some(Form::Slice { names, limit })
+    } else {
+        None
+    }
+}
+
+/// The form of `slice`, by the words behind it.
+fn slice_form(words: &[String]) -> Option<Form>
+    ensures exact { result ≡ spec.slice_form (map string_bytes words.now) }
+    ensures named { IfSome result (λ form. spec.name_count form ≤ length words.now) }
+    ensures limited { IfSome result spec.IsLimited }
+{
+    let (_, names) = words.split_first()?;
+    match last_limit(names) {
+        Some(limit) => names_form(names.len() - 1, limit),
+        None => names_form(names.len(), NODE_LIMIT),
+    }
+}
+
 /// The form of the words, where they have one.
 pub(crate) fn parse(words: &[String]) -> Option<Form>
     ensures exact { result ≡ spec.form_of (map string_bytes words.now) }
-    ensures files { IfSome result (λ form. spec.file_count form < length words.now) }
+    ensures named { IfSome result (λ form. spec.name_count form < length words.now) }
     ensures limited { IfSome result spec.IsLimited }
 {
     let (verb, rest) = words.split_first()?;
@@ -121,6 +163,7 @@ pub(crate) fn parse(words: &[String]) -> Option<Form>
         "replay" => Some(Form::Replay {
             limit: limit_behind(2, rest)?,
         }),
+        "slice" => slice_form(rest),
         _ => None,
     }
 }

@@ -3,8 +3,8 @@ ghost use Rattle.std.specs.Prelude.{◌≡◌, ◌≢◌, ◌⊎◌, None, IfOk,
 ghost use Rattle.scr_io.specs.Outside.{HasRisen};
 ghost use Rattle.scr_job.specs.Ends.{Answered, Stopped, Wrote, IsCut, Ended, is_own};
 ghost use Rattle.scr_cli.specs.Form.{form_of};
-ghost use Rattle.scr_cli.specs.Holds.{PrintedRight, PrintedHold};
-ghost use Rattle.scr_cli.specs.Answers.{Answers, OneAnswer, IsUsage, HoldsFiles, begins_none, reads_first, told_for, work_of};
+ghost use Rattle.scr_cli.specs.Holds.{PrintedRight, PrintedHold, PrintedSlice};
+ghost use Rattle.scr_cli.specs.Answers.{Answers, OneAnswer, IsUsage, HoldsFiles, begins_none, reads_first, told_for, work_for};
 
 use crate::check::Check;
 use crate::form::{Form, parse};
@@ -19,6 +19,7 @@ use scr_large::Large;
 use scr_replay::Replay;
 use scr_runc::RunC;
 use scr_simulate::Simulate;
+use scr_slicing::Slice;
 use std::alloc::Global;
 
 /// Writes the usage line, for words that have no form.
@@ -31,7 +32,7 @@ fn usage<K: Sink>(out: &mut K) -> Result<Status, Stop>
 {
     put(
         out,
-        b"usage: scr check|simulate|invariants|emit|format|runc|generate|large|cover|replay ...\n",
+        b"usage: scr check|simulate|invariants|emit|format|runc|generate|large|cover|replay|slice ...\n",
     )?;
     Ok(Status::Usage)
 }
@@ -43,24 +44,24 @@ fn dispatch<S: Shelf, K: Sink>(
     shelf: &mut S,
     out: &mut K,
 ) -> Result<Status, Stop>
-    ensures answered { IfOk result (Answered (told_for (work_of (form_of (map string_bytes words.now))) (S.contents shelf.old))
+    ensures answered { IfOk result (Answered (told_for (work_for (map string_bytes words.now)) (S.contents shelf.old))
         (K.written out.old) (K.written out.new) (Answers (map string_bytes words.now))) }
-    ensures stopped { IfErr result (Stopped (told_for (work_of (form_of (map string_bytes words.now))) (S.contents shelf.old))
+    ensures stopped { IfErr result (Stopped (told_for (work_for (map string_bytes words.now)) (S.contents shelf.old))
         (K.written out.old) (K.written out.new) (Answers (map string_bytes words.now))) }
     ensures status { IfOk result (λ status. IsTrue (is_own status)
         ⊎ ((status ≡ Status.Usage) × (form_of (map string_bytes words.now) ≡ None))) }
     ensures no_form { form_of (map string_bytes words.now) ≡ None
         → MatchResult result (λ status. status ≡ Status.Usage) (λ stop. stop ≡ Stop.Write) }
-    ensures nothing { IsTrue (reads_first (work_of (form_of (map string_bytes words.now))))
+    ensures nothing { IsTrue (reads_first (work_for (map string_bytes words.now)))
         → IsErrOf result Stop.Read → K.written out.new ≡ K.written out.old }
     ensures read_cause { IsErrOf result Stop.Read → HasRisen (S.faults shelf.old) (S.faults shelf.new) }
     ensures write_cause { IsErrOf result Stop.Write → HasRisen (K.faults out.old) (K.faults out.new) }
-    ensures no_file { IsTrue (begins_none (work_of (form_of (map string_bytes words.now))))
+    ensures no_file { IsTrue (begins_none (work_for (map string_bytes words.now)))
         → S.faults shelf.new ≡ S.faults shelf.old }
-    ensures no_read { IsTrue (begins_none (work_of (form_of (map string_bytes words.now))))
+    ensures no_read { IsTrue (begins_none (work_for (map string_bytes words.now)))
         → ¬ IsErrOf result Stop.Read }
     ensures succeeds { S.steady shelf.old
-        → HoldsFiles (S.contents shelf.old) (work_of (form_of (map string_bytes words.now))) (map string_bytes words.now)
+        → HoldsFiles (S.contents shelf.old) (work_for (map string_bytes words.now)) (map string_bytes words.now)
         → ¬ IsErrOf result Stop.Read }
 {
     match parse(words) {
@@ -121,6 +122,13 @@ fn dispatch<S: Shelf, K: Sink>(
                 out,
             )
         }
+        Some(Form::Slice { names, limit }) => {
+            let job = Slice {
+                nodes: limit,
+                names: &words[2..2 + names],
+            };
+            respond(&job, alloc, words[1].as_str(), shelf, out)
+        }
     }
 }
 
@@ -143,21 +151,21 @@ fn dispatch<S: Shelf, K: Sink>(
 ///
 /// `NoMemory` may come at any growth of memory.
 pub fn run<S: Shelf, K: Sink>(alloc: Global, words: &[String], shelf: &mut S, out: &mut K) -> Status
-    ensures ended { Ended (told_for (work_of (form_of (map string_bytes words.now))) (S.contents shelf.old))
+    ensures ended { Ended (told_for (work_for (map string_bytes words.now)) (S.contents shelf.old))
         (K.written out.old) (K.written out.new) (Answers (map string_bytes words.now)) result }
-    ensures nothing { IsTrue (reads_first (work_of (form_of (map string_bytes words.now))))
+    ensures nothing { IsTrue (reads_first (work_for (map string_bytes words.now)))
         → result ≡ Status.ReadFault → K.written out.new ≡ K.written out.old }
     ensures read_cause { result ≡ Status.ReadFault → HasRisen (S.faults shelf.old) (S.faults shelf.new) }
     ensures write_cause { result ≡ Status.WriteFault → HasRisen (K.faults out.old) (K.faults out.new) }
     ensures usage { result ≡ Status.Usage → form_of (map string_bytes words.now) ≡ None }
     ensures no_form { form_of (map string_bytes words.now) ≡ None
         → (result ≡ Status.Usage) ⊎ (result ≡ Status.WriteFault) }
-    ensures no_file { IsTrue (begins_none (work_of (form_of (map string_bytes words.now))))
+    ensures no_file { IsTrue (begins_none (work_for (map string_bytes words.now)))
         → S.faults shelf.new ≡ S.faults shelf.old }
-    ensures no_read { IsTrue (begins_none (work_of (form_of (map string_bytes words.now))))
+    ensures no_read { IsTrue (begins_none (work_for (map string_bytes words.now)))
         → result ≢ Status.ReadFault }
     ensures succeeds { S.steady shelf.old
-        → HoldsFiles (S.contents shelf.old) (work_of (form_of (map string_bytes words.now))) (map string_bytes words.now)
+        → HoldsFiles (S.contents shelf.old) (work_for (map string_bytes words.now)) (map string_bytes words.now)
         → result ≢ Status.ReadFault }
 {
     match dispatch(alloc, words, shelf, out) {
@@ -183,4 +191,10 @@ pub fn printed_right()
 /// file spells, whether it ends with `Done`, or with `Undecided` since a class is undecided.
 pub fn printed_hold()
     ensures { PrintedHold }
+{}
+
+/// What `slice` writes with `Done` is the slice that the named variables need: it keeps all rules, passes all
+/// checks, and its runs are those of the whole.
+pub fn printed_slice()
+    ensures { PrintedSlice }
 {}

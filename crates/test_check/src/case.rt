@@ -70,12 +70,12 @@ fn bytes_of(alloc: Global, lines: &[String]) -> Result<Vec<u8>, AllocError> {
 }
 
 /// A command, and the words behind the name of its file: the name of a second file whose lines are
-/// `script`, where it has any, and the limit where there is one.
+/// `script`, where it has any, and then `words`.
 #[derive(Drop)]
 pub struct Command {
     pub name: String,
     pub script: Vec<String>,
-    pub limit: Option<String>,
+    pub words: Vec<String>,
 }
 
 /// The words of a command.
@@ -84,8 +84,8 @@ fn words_of(alloc: Global, command: &Command) -> Result<Vec<String>, AllocError>
     if !command.script.is_empty() {
         words.push("s".to_string(alloc)?)?;
     }
-    if let Some(limit) = &command.limit {
-        words.push(limit.clone()?)?;
+    for word in command.words.as_slice() {
+        words.push(word.clone()?)?;
     }
     Ok(words)
 }

@@ -37,7 +37,7 @@ impl Script {
             command: Command {
                 name: String::new(alloc),
                 script: Vec::new(alloc),
-                limit: None,
+                words: Vec::new(alloc),
             },
             lines: Vec::new(alloc),
         }
@@ -71,7 +71,7 @@ impl Script {
             self.command = Command {
                 name: "check".to_string(alloc)?,
                 script: Vec::new(alloc),
-                limit: None,
+                words: Vec::new(alloc),
             };
             self.lines = self.copy_of(alloc, name)?;
             self.block = Block::Case;
@@ -99,12 +99,14 @@ impl Script {
         Ok(())
     }
 
-    /// Takes a line of a case: its command, its limit, a line of a second file, or a change of its text.
+    /// Takes a line of a case: its command, its last words, a line of a second file, or a change of its text.
     fn differ(&mut self, alloc: Global, line: &str) -> Result<(), AllocError> {
         if let Some(word) = line.strip_prefix("command ") {
             self.command.name = word.to_string(alloc)?;
-        } else if let Some(word) = line.strip_prefix("limit ") {
-            self.command.limit = Some(word.to_string(alloc)?);
+        } else if let Some(words) = line.strip_prefix("words ") {
+            for word in words.split(' ') {
+                self.command.words.push(word.to_string(alloc)?)?;
+            }
         } else if let Some(script) = line.strip_prefix("script ") {
             self.command.script.push(script.to_string(alloc)?)?;
         } else {

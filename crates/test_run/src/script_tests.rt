@@ -1,4 +1,4 @@
-//! Runs of `simulate`, with the bytes and the status that are wanted.
+//! Runs of `simulate`, and of `cover` where the script cannot be read, with the bytes and the status that are wanted.
 
 use scr_cli::{Status, run};
 use scr_io::{MemoryFile, MemoryShelf, MemorySink};
@@ -23,15 +23,16 @@ fn file(alloc: Global, name: &str, bytes: &str) -> Result<MemoryFile, Fail> {
 }
 
 // A run over the files `f` and `s`, in pieces of 11 bytes, of which the call of this number fails.
-fn simulate(
+fn run_by(
     alloc: Global,
+    command: &str,
     script_name: &str,
     text: &str,
     script: &str,
     call: u32,
 ) -> Result<(Status, Vec<u8>), Fail> {
     let mut words = Vec::new(alloc);
-    for word in ["simulate", "f", script_name] {
+    for word in [command, "f", script_name] {
         words.push(word.to_string(alloc)?)?;
     }
     let mut files = vec![in alloc; file(alloc, "f", text)?]?;
@@ -46,7 +47,7 @@ fn simulate(
 fn answers_each_line_before_a_further_read(rt: HostRuntime) -> Result<(), Fail> {
     let alloc = rt.alloc();
     for call in 1..=23 {
-        let (status, written) = simulate(alloc, "s", TEXT, SCRIPT, call)?;
+        let (status, written) = run_by(alloc, "simulate", "s", TEXT, SCRIPT, call)?;
         let wanted = match call {
             1..=18 => "",
             19 | 20 => ZERO,
@@ -67,11 +68,22 @@ fn answers_each_line_before_a_further_read(rt: HostRuntime) -> Result<(), Fail> 
 #[test]
 fn writes_the_first_state_before_it_looks_for_the_script(rt: HostRuntime) -> Result<(), Fail> {
     let alloc = rt.alloc();
-    let (status, written) = simulate(alloc, "missing", TEXT, SCRIPT, 0)?;
+    let (status, written) = run_by(alloc, "simulate", "missing", TEXT, SCRIPT, 0)?;
     assert_eq!(rt; status, Status::ReadFault);
     assert_eq!(rt; written.as_slice(), ZERO.as_bytes());
-    let (status, written) = simulate(alloc, "missing", "", SCRIPT, 0)?;
+    let (status, written) = run_by(alloc, "simulate", "missing", "", SCRIPT, 0)?;
     assert_eq!(rt; status, Status::SpecRefused);
     assert_eq!(rt; written.as_slice(), b"line 1: end\n".as_slice());
+    Ok(())
+}
+
+#[test]
+fn covers_nothing_before_the_script_is_read(rt: HostRuntime) -> Result<(), Fail> {
+    let alloc = rt.alloc();
+    for (script, call) in [("missing", 0), ("s", 22)] {
+        let (status, written) = run_by(alloc, "cover", script, TEXT, SCRIPT, call)?;
+        assert_eq!(rt; status, Status::ReadFault, "{script}");
+        assert_eq!(rt; written.len(), 0, "{script}");
+    }
     Ok(())
 }

@@ -1,5 +1,5 @@
 use Rattle.std.proofs.Common.{◌≡◌, None, map, string_bytes}
-use Rattle.scr_cli.specs.Answers.{Answers, told_for, work_of}
+use Rattle.scr_cli.specs.Answers.{Answers, told_for, work_for}
 use Rattle.scr_cli.specs.Form.{form_of}
 use Rattle.scr_cli.proofs.Endings.{ended_so}
 use Rattle.scr_cli.proofs.top.run.Goals as goal
@@ -7,4 +7,4 @@ use Rattle.scr_cli.proofs.top.run.Goals as goal
 pub returns-in-Ok-clause-ended : goal.returns-in-Ok-clause-ended
 returns-in-Ok-clause-ended g c =
     let words = map string_bytes c.args.words.now in
-    ended_so (told_for (work_of (form_of words)) (g.S.Shelf.contents c.args.shelf.now)) _ _ (Answers words) c.in-Ok.status (form_of words ≡ None) c.in-Ok.ensures.status c.in-Ok.ensures.answered
+    ended_so (told_for (work_for words) (g.S.Shelf.contents c.args.shelf.now)) _ _ (Answers words) c.in-Ok.status (form_of words ≡ None) c.in-Ok.ensures.status c.in-Ok.ensures.answered

@@ -1,0 +1,5 @@
+pub mod Mentions
+pub mod Renumbered
+pub mod Slices
+pub mod Laws
+pub mod Marks

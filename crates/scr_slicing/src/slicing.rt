@@ -1,0 +1,75 @@
+//! What `slice` answers for a file.
+ghost use Rattle.std.specs.Prelude.{◌≤◌, IfOk, IsTrue, map, string_bytes, nat_lt, length};
+ghost use Rattle.dd_store.specs.declared.store.TheConstants.{NODE_LIMIT};
+ghost use Rattle.scr_spec.specs.Shown.{data_of};
+ghost use Rattle.scr_job.specs.Ends.{is_own};
+ghost use Rattle.scr_slice.specs.Slices.{HoldsEach};
+ghost use Rattle.scr_slicing.specs.Slicing.{IsSliceText, SlicesSpec};
+
+use crate::names::{Selection, select};
+use scr_canonical::canonical_text;
+use scr_checking::{Checking, check_file};
+use scr_depend::Checked;
+use scr_job::{Job, Loaded, Status};
+use scr_reader::TEXT_LIMIT;
+use scr_slice::{kept, slice};
+use scr_text::NoMemory;
+use std::alloc::Global;
+
+/// The command `slice`, with the words that name variables, and the limit on the distinct nodes of each
+/// table.
+#[derive(Drop)]
+pub struct Slice<'a> {
+    pub nodes: u32,
+    pub names: &'a [String],
+    pub ghost limited: { nodes ≤ NODE_LIMIT },
+}
+
+/// The text of the slice of these variables.
+fn text_of(alloc: Global, checked: &Checked, numbers: &[usize]) -> Result<Vec<u8>, NoMemory>
+    requires { HoldsEach numbers.now (λ v. nat_lt v (length checked.now.spec.variables)) }
+    ensures { IfOk result (λ text. IsSliceText (data_of checked.now.spec) numbers.now text.items) }
+{
+    let keep = kept(alloc, checked.spec(), numbers)?;
+    let part = slice(alloc, checked, keep.as_slice())?;
+    canonical_text(alloc, &part)
+}
+
+/// What is written for a specification that passed its checks.
+fn answer_for(
+    alloc: Global,
+    checked: &Checked,
+    words: &[String],
+) -> Result<(Vec<u8>, Status), NoMemory>
+    ensures exact { IfOk result (λ r. SlicesSpec (map string_bytes words.now) (data_of checked.now.spec) r.0.items r.1) }
+    ensures own { IfOk result (λ r. IsTrue (is_own r.1)) }
+{
+    match select(alloc, checked.spec(), words)? {
+        Selection::Variables(numbers) => Ok((
+            text_of(alloc, checked, numbers.as_slice())?,
+            Status::Done,
+        )),
+        Selection::Refused(line) => Ok((line, Status::NameRefused)),
+    }
+}
+
+impl<'a> Job for Slice<'a> {
+    ghost use Rattle.std.specs.Prelude.{map, string_bytes};
+    ghost use Rattle.scr_reader.specs.declared.text.TheConstants.{TEXT_LIMIT};
+    ghost use Rattle.scr_slicing.specs.Slicing.{SlicesFile};
+
+    ghost answers = { λ job. SlicesFile (map string_bytes job.names.now) job.nodes };
+
+    ghost limit = { λ _. TEXT_LIMIT };
+
+    fn limit(&self) -> usize {
+        TEXT_LIMIT
+    }
+
+    fn answer(&self, alloc: Global, file: Loaded) -> Result<(Vec<u8>, Status), NoMemory> {
+        match check_file(alloc, &file, self.nodes)? {
+            Checking::Passed(checked) => answer_for(alloc, &checked, self.names),
+            Checking::Finished(report, status) => Ok((report, status)),
+        }
+    }
+}
