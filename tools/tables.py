@@ -1,0 +1,83 @@
+"""The declarations and tables of a specification, as the lines of its text have them.
+
+The text is taken to be right: scr check tells its faults."""
+import re
+import sys
+
+
+class Table:
+    """A table with its rows, each a list of modes and a list of cells. The rows of a mode table are its sources, and its cells go by targets."""
+
+    def __init__(self, kind, name, over):
+        self.kind, self.name, self.over = kind, name, over
+        self.rows, self.values, self.targets = [], [], []
+
+    def add_row(self, modes, cells):
+        self.rows.append((split(modes, ","), split(cells, "|")))
+
+    def add_change(self, source, target, event):
+        """Adds a line of a mode table. Lines with the same source and target are one cell."""
+        sources = [modes[0] for modes, _ in self.rows]
+        if source not in sources:
+            self.rows.append(([source], []))
+            self.targets.append([])
+            sources.append(source)
+        place = sources.index(source)
+        cells, targets = self.rows[place][1], self.targets[place]
+        if target in targets:
+            cells[targets.index(target)] += " OR " + event
+        else:
+            targets.append(target)
+            cells.append(event)
+
+
+def split(words, sign):
+    return [it.strip() for it in words.split(sign) if it.strip()]
+
+
+def statement(line):
+    """The statement of a line, without its comment, with single spaces."""
+    return " ".join(line.split("#")[0].split())
+
+
+def lines_of(path):
+    """The lines of a file, or of standard input for -. Comments may hold any bytes."""
+    if path == "-":
+        return sys.stdin.read().split("\n")
+    with open(path, encoding="utf-8", errors="replace") as text:
+        return text.read().split("\n")
+
+
+def tables(lines):
+    """The tables of a text, in its order."""
+    found = []
+    for line in map(statement, lines):
+        head = re.match(r"(CONDITION|EVENT|MODES) (\w+)(?: OVER (\w+))?$", line)
+        row = re.match(r"ROW ?([^:]*):(.*)$", line)
+        change = re.match(r"FROM (\w+) TO (\w+) ?: ?(.*)$", line)
+        if head:
+            found.append(Table(*head.groups()))
+        elif row:
+            found[-1].add_row(*row.groups())
+        elif change:
+            found[-1].add_change(*change.groups())
+        elif line.startswith("VALUES "):
+            found[-1].values = split(line[7:], "|")
+    return found
+
+
+def sizes(lines):
+    """The variables of a text in order of declaration, each with the number of its values."""
+    types, found = {"BOOLEAN": 2}, {}
+    for line in map(statement, lines):
+        span = re.match(r"TYPE (\w+) ?= ?(- ?)?(\d+) ?\.\. ?(- ?)?(\d+)$", line)
+        names = re.match(r"(TYPE|MODECLASS) (\w+) ?= ?\{(.*)\}", line)
+        variable = re.match(r"(?:MONITORED|TERM|CONTROLLED) (\w+) ?: ?(\w+)", line)
+        if span:
+            low, high = (int(digits) * (-1 if minus else 1) for minus, digits in (span.group(2, 3), span.group(4, 5)))
+            types[span[1]] = high - low + 1
+        elif names:
+            (types if names[1] == "TYPE" else found)[names[2]] = len(split(names[3], ","))
+        elif variable:
+            found[variable[1]] = types[variable[2]]
+    return found
