@@ -1,4 +1,5 @@
 pub mod Occurs
+pub mod PassingLevels
 pub mod OneMember
 pub mod SameTruth
 pub mod Truths
@@ -10,5 +11,6 @@ pub mod OneLeast
 pub mod AtomTests
 pub mod LevelLaws
 pub mod SomeLeast
+pub mod OneDecision
 pub mod Single
 pub mod Solutions

@@ -1,8 +1,8 @@
 -- What `invariants` answers.
-use Rattle.std.proofs.Common.{◌≡◌, ℕ, Bool, true, false, List, [], ◌∷◌, map, length, Option, Some, Result, Ok, Err, refl, sym, ap, ap₂, subst, ◌∙◌, IsTrue}
+use Rattle.std.proofs.Common.{◌≡◌, ℕ, Bool, true, false, List, [], ◌∷◌, map, Option, Some, Result, Ok, Err, refl, sym, ap, ap₂, subst, ◌∙◌, IsTrue}
 use Rattle.std.specs.Prelude.{◌&&◌, IfOk}
 use Rattle.std.proofs.lemmas.Bool.{false≢true}
-use Rattle.std.specs.List.{list_all, range_with_len, AllByRecursion}
+use Rattle.std.specs.List.{list_all, AllByRecursion}
 use Rattle.scr_spec.specs.Data.{Data}
 use Rattle.scr_spec.specs.Shown.{data_of}
 use Rattle.scr_spec.specs.Meaning.{Codes}
@@ -20,8 +20,8 @@ use Rattle.scr_depend.specs.Passes.{PassesChecks}
 use Rattle.scr_next.specs.Runs.{IsRun}
 use Rattle.scr_invariants.specs.declared.derived.Derived.{Derived}
 use Rattle.scr_invariants.specs.declared.derived.Derived.TheVariants as derived
-use Rattle.scr_invariants.specs.Derivations.{HasDerived}
-use Rattle.scr_invariants.proofs.Testing.{all_filtered}
+use Rattle.scr_invariants.specs.Derivations.{classes_of, HasDerived}
+use Rattle.scr_invariants.proofs.Testing.{classes_are}
 use Rattle.scr_invariants.proofs.Once.{one_derived}
 use Rattle.scr_invariants.proofs.Sound.{invariants_hold}
 use Rattle.scr_job.specs.declared.status.Status.{Status}
@@ -38,7 +38,7 @@ use Rattle.scr_checking.proofs.Checks.{one_checking, passes_checks}
 use Rattle.scr_checking.proofs.First.{first_once, first_some}
 use Rattle.scr_derive.specs.declared.derivation.Derivation.{Derivation}
 use Rattle.scr_derive.specs.Texts.{classes_text}
-use Rattle.scr_derive.specs.Derives.{classes_of, HaveDerived, status_of, Derives, DerivesText, DerivesFile}
+use Rattle.scr_derive.specs.Derives.{HaveDerived, status_of, Derives, DerivesText, DerivesFile}
 use Rattle.scr_derive.specs.Laws.{HoldThroughout, PrintsWhatHolds, OneDerivation}
 
 -- ---- one answer
@@ -113,9 +113,6 @@ module _ (spec : Data) (order : Order) (limit : ℕ) (k : PassesChecks spec orde
     one_holds d.class d.derived (subst (λ n. IsTrue (is_class_at spec n)) (sym h.0) (first_of (is_class_at spec c) (list_all (is_class_at spec) cs) are)) h.1,
     each_holds cs ds (rest_of (is_class_at spec c) (list_all (is_class_at spec) cs) are) h.2,
   )
-
-pub classes_are : (spec : Data) → IsTrue (list_all (is_class_at spec) (classes_of spec))
-classes_are spec = all_filtered (is_class_at spec) (range_with_len 0 (length spec.variables))
 
 own_holds : (limit : ℕ) (spec : Data) (order : Order) (bytes : List ℕ) (status : Status) → PassesChecks spec order → Derives limit spec bytes status → PrintsWhatHolds spec bytes
 own_holds limit spec order bytes status k a =

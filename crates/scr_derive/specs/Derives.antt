@@ -1,23 +1,18 @@
 -- What `invariants` answers.
-use Rattle.std.specs.Prelude.{◌≡◌, ℕ, Bool, true, false, List, [], ◌∷◌, length, Option, if◌then◌else◌}
-use Rattle.std.specs.List.{filter, range_with_len, list_any}
+use Rattle.std.specs.Prelude.{◌≡◌, ℕ, Bool, true, false, List, [], ◌∷◌, Option, if◌then◌else◌}
+use Rattle.std.specs.List.{list_any}
 use Rattle.scr_spec.specs.Data.{Data}
-use Rattle.scr_spec.specs.Tables.{is_class_at}
 use Rattle.scr_depend.specs.Dependencies.{graph_of}
 use Rattle.scr_depend.specs.Orders.{IsOrder}
 use Rattle.scr_invariants.specs.declared.derived.Derived.{Derived}
 use Rattle.scr_invariants.specs.declared.derived.Derived.TheVariants as derived
-use Rattle.scr_invariants.specs.Derivations.{HasDerived}
+use Rattle.scr_invariants.specs.Derivations.{classes_of, HasDerived}
 use Rattle.scr_job.specs.declared.status.Status.{Status}
 use Rattle.scr_job.specs.declared.status.Status.TheVariants.{Done, Undecided}
 use Rattle.scr_job.specs.Ends.{ByFile}
 use Rattle.scr_checking.specs.Checking.{ChecksFirst}
 use Rattle.scr_derive.specs.declared.derivation.Derivation.{Derivation}
 use Rattle.scr_derive.specs.Texts.{classes_text}
-
--- the mode classes, in order of declaration
-abbrev pub classes_of : Data → List ℕ
-classes_of spec = filter (is_class_at spec) (range_with_len 0 (length spec.variables))
 
 -- what is derived for each of the classes, each by itself
 abbrev pub HaveDerived : Data → List ℕ → ℕ → List ℕ → List Derivation → Type 0

@@ -10,13 +10,14 @@ use Rattle.scr_next.specs.Runs.{IsRun}
 use Rattle.scr_invariants.specs.declared.derived.Derived.{Derived}
 use Rattle.scr_invariants.specs.declared.derived.Derived.TheVariants as derived
 use Rattle.scr_invariants.specs.Holds.{holds_in}
+use Rattle.scr_invariants.specs.Derivations.{classes_of}
 use Rattle.scr_job.specs.declared.status.Status.{Status}
 use Rattle.scr_job.specs.declared.status.Status.TheVariants.{Done}
 use Rattle.scr_job.specs.Ends.{IsFront}
 use Rattle.scr_checking.specs.Checking.{Passes}
 use Rattle.scr_derive.specs.declared.derivation.Derivation.{Derivation}
 use Rattle.scr_derive.specs.Texts.{classes_text}
-use Rattle.scr_derive.specs.Derives.{classes_of, DerivesText, DerivesFile}
+use Rattle.scr_derive.specs.Derives.{DerivesText, DerivesFile}
 
 -- each candidate that is found for the class holds in each of the states
 abbrev pub HoldThroughout : Data → List Codes → ℕ → Derived → Type 0

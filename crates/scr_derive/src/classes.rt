@@ -4,32 +4,17 @@ ghost use Rattle.std.specs.List.{list_all, list_any};
 ghost use Rattle.scr_spec.specs.Shown.{data_of};
 ghost use Rattle.scr_spec.specs.Tables.{is_class_at};
 ghost use Rattle.scr_job.specs.Ends.{is_own};
-ghost use Rattle.scr_derive.specs.Derives.{classes_of, HaveDerived, is_undecided, status_of, Derives};
+ghost use Rattle.scr_derive.specs.Derives.{HaveDerived, is_undecided, status_of, Derives};
 ghost use Rattle.dd_store.specs.declared.store.TheConstants.{NODE_LIMIT};
 
 use crate::derivation::Derivation;
 use crate::text::push_classes;
 use scr_depend::Checked;
-use scr_invariants::{Derived, derive, is_class};
+use scr_invariants::{Derived, classes, derive};
 use scr_job::Status;
-use scr_spec::Spec;
 use scr_text::NoMemory;
 use sqlite_items::Items;
 use std::alloc::Global;
-
-/// The mode classes, in order of declaration.
-#[tactic(auto, using(scr_invariants::proofs::Testing::monitored_laws))]
-fn classes(alloc: Global, spec: &Spec) -> Result<Items<usize>, NoMemory>
-    ensures { IfOk result (λ list. list ≡ classes_of (data_of spec.now)) }
-{
-    let mut out = Items::new(alloc);
-    for v in 0..spec.variables.len() {
-        if is_class(spec, v) {
-            out.push(v)?;
-        }
-    }
-    Ok(out)
-}
 
 /// Derives invariants for each of the classes.
 #[tactic(auto, using(crate::proofs::Lists::list_laws))]

@@ -1,5 +1,6 @@
 pub mod Levels
 pub mod Sides
+pub mod Between
 pub mod Conditions
 pub mod Measure
 pub mod Events

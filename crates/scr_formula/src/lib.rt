@@ -13,7 +13,7 @@ mod value;
 mod violation;
 
 pub use cell::of_cell;
-pub use condition::of_cond;
+pub use condition::{of_cond, of_pair_cond};
 pub use dd_formula::{Formula, Linear, Op, Term};
 pub use event::{keeps_code, of_event};
 pub use frozen::only_changed;

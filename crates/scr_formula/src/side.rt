@@ -20,7 +20,7 @@ pub enum Reading {
     Across,
 }
 
-fn plain_in_new(reading: Reading) -> bool
+pub fn plain_in_new(reading: Reading) -> bool
     ensures { result ≡ plain_new reading }
 {
     match reading {
@@ -155,19 +155,19 @@ pub fn less(left: i64, right: i64) -> i64
 pub fn difference_at(
     alloc: Global,
     spec: &Spec,
-    new: bool,
+    reading: Reading,
     left: &Expr,
     right: &Expr,
     op: Op,
 ) -> Result<Linear, NoMemory>
     requires left_over { IsTrue (is_side_over (data_of spec.now) left.now) }
     requires right_over { IsTrue (is_side_over (data_of spec.now) right.now) }
-    ensures atom { IfOk result (λ a. a ≡ difference (data_of spec.now) new left.now right.now op) }
+    ensures atom { IfOk result (λ a. a ≡ difference (data_of spec.now) reading left.now right.now op) }
     ensures bounded { IfOk result (λ a. unsigned_abs a.constant ≤ 4000000000) }
 {
     let mut terms = Items::new(alloc);
-    push_side(&mut terms, spec, left, Reading::In(new))?;
-    push_negated_side(&mut terms, spec, right, Reading::In(new))?;
+    push_side(&mut terms, spec, left, reading)?;
+    push_negated_side(&mut terms, spec, right, reading)?;
     Ok(Linear {
         terms,
         constant: less(constant_at(spec, left), constant_at(spec, right)),

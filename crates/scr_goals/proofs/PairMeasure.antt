@@ -56,7 +56,7 @@ own_over : (spec : Data) → IsSound spec → (w : ℕ) (b : Bool) → AreOver s
 own_over spec sound w true = and_from _ true (own_over_ok spec w false (Ok (own_formula spec w false)) sound refl) refl
 own_over spec sound w false = refl
 
-need_over : (spec : Data) → IsSound spec → (w : ℕ) → AreOver spec (need_formulas spec w)
+pub need_over : (spec : Data) → IsSound spec → (w : ℕ) → AreOver spec (need_formulas spec w)
 need_over spec sound w = and_from _ _ (relation_over_ok spec w (Ok (relation_formula spec w)) sound refl) (own_over spec sound w (has_condition_table spec w))
 
 -- the formulas of a pair

@@ -60,7 +60,7 @@ falls s t x k =
 differs : (s t : Codes) (x : ℕ) → Decides (holds_at (valuation_of s t) (Not (same_code x))) (code_of t x ≢ code_of s x)
 differs s t x = Decides-at _ (not (int_eq (code_of t x) (code_of s x))) (holds_at-negation _ _ _ (holds_at-same_code s t x)) (Decides-not _ (Decides-int_eq (code_of t x) (code_of s x)))
 
-change_tells : (s t : Codes) (x : ℕ) (o : Option ℤ)
+pub change_tells : (s t : Codes) (x : ℕ) (o : Option ℤ)
     → Decides (holds_at (valuation_of s t) (bounded_change x o)) ((code_of t x ≢ code_of s x) × IsBounded o (code_of t x -ℤ code_of s x))
 change_tells s t x None = Decides-like _ (λ h. (h, tt)) (λ h. h.0) (differs s t x)
 change_tells s t x (Some k) =
@@ -84,7 +84,7 @@ own_tells spec s t w true e =
     Decides-like _ (λ k h. k.0) (λ k. (k refl, tt)) (Decides-and _ _ (same_test _ _ own) always)
 own_tells spec s t w false e = ((λ k h. absurd (false_is_true h)), (λ k. refl))
 
-need_tells : (spec : Data) (s t : Codes) (w : ℕ) → Decides (list_all (holds_at (valuation_of s t)) (need_formulas spec w)) (IsMet spec s t w)
+pub need_tells : (spec : Data) (s t : Codes) (w : ℕ) → Decides (list_all (holds_at (valuation_of s t)) (need_formulas spec w)) (IsMet spec s t w)
 need_tells spec s t w =
     Decides-and _ _ (same_test _ _ (relation_truth_ok spec w (Ok (relation_formula spec w)) refl s t)) (own_tells spec s t w (has_condition_table spec w) refl)
 

@@ -12,4 +12,4 @@ pub use formula::{goal_formula, goal_formula_for, related_where, wrong_where};
 pub use goal::{Goal, GoalKind};
 pub use law::{goals_decide, goals_tell, same_unbounded};
 pub use list::goals;
-pub use pair::{change, pairs};
+pub use pair::{change, pairs, push_need};

@@ -119,8 +119,15 @@ fn is_among(list: &[usize], x: usize) -> bool
     list.iter().any(|y| *y == x)
 }
 
+/// Adds the formulas that say that the variable meets its relation, and with a condition table has its
+/// own value in the old state, too.
 #[tactic(auto, using(crate::proofs::Growth::need_steps))]
-fn push_need(out: &mut Items<Formula>, alloc: Global, spec: &Spec, w: usize) -> Result<(), NoMemory>
+pub fn push_need(
+    out: &mut Items<Formula>,
+    alloc: Global,
+    spec: &Spec,
+    w: usize,
+) -> Result<(), NoMemory>
     ensures { OnOk result (out.new ≡ out.old ++ need_formulas (data_of spec.now) w) }
 {
     out.push(of_relation(alloc, spec, w)?)?;

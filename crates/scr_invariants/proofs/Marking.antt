@@ -12,7 +12,8 @@ use Rattle.scr_invariants.specs.declared.moves.Moved.{Moved}
 use Rattle.scr_invariants.specs.declared.setting.Round.{Round}
 use Rattle.scr_invariants.specs.declared.change.Tested.{Tested}
 use Rattle.scr_invariants.specs.declared.change.Tested.TheVariants.{Kept, Broken, Past}
-use Rattle.scr_invariants.specs.Tests.{monitored_variables, IsChangeTested, AreTested, all_kept, kept, broken, past}
+use Rattle.scr_goals.specs.Goals.{monitored_variables}
+use Rattle.scr_invariants.specs.Tests.{IsChangeTested, AreTested, all_kept, kept, broken, past}
 use Rattle.scr_invariants.specs.Tests as tests
 use Rattle.scr_invariants.specs.Settings.{moved_by, spec_in, test_in, IsMovedIn, change_test_in}
 use Rattle.scr_invariants.specs.Rounds.{passed_in, IsMarked, IsRound, StopsAt}

@@ -10,7 +10,8 @@ use Rattle.scr_invariants.specs.declared.derived.Derived.TheVariants.{All, Undec
 use Rattle.scr_invariants.specs.declared.change.Tested.{Tested}
 use Rattle.scr_invariants.specs.declared.change.Tested.TheVariants.{Kept, Broken, Past}
 use Rattle.scr_invariants.specs.Holds.{holds_in}
-use Rattle.scr_invariants.specs.Tests.{monitored_variables, test_nodes, IsChangeTested, AreTested, all_kept, kept, broken, past, IsTested, false_at_first, tested}
+use Rattle.scr_goals.specs.Goals.{monitored_variables}
+use Rattle.scr_invariants.specs.Tests.{test_nodes, IsChangeTested, AreTested, all_kept, kept, broken, past, IsTested, false_at_first, tested}
 use Rattle.scr_invariants.specs.Rounds.{Tests, standing_of, passed_in, known_in, known_of, found_of, number_passed, IsMarked, passed_before, fails, passes, IsRound, no_more, next, StopsAt, here, later, IsDerived}
 use Rattle.scr_invariants.proofs.Progress.{IsInRounds, rounds_start, rounds_next, rounds_fixed, rounds_stopped, rounds_done}
 

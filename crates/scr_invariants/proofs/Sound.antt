@@ -21,7 +21,8 @@ use Rattle.scr_invariants.specs.declared.derived.Found.{Found}
 use Rattle.scr_invariants.specs.declared.standing.Standing.{Standing}
 use Rattle.scr_invariants.specs.declared.change.Tested.TheVariants.{Kept}
 use Rattle.scr_invariants.specs.Holds.{holds_in, IsKeptBy}
-use Rattle.scr_invariants.specs.Tests.{monitored_variables, AreTested, all_kept, kept, IsTested, tested}
+use Rattle.scr_goals.specs.Goals.{monitored_variables}
+use Rattle.scr_invariants.specs.Tests.{AreTested, all_kept, kept, IsTested, tested}
 use Rattle.scr_invariants.specs.Rounds.{Tests, standing_of, known_in, known_of, found_in, found_of, passed_before, fails, passes, IsRound, no_more, next, IsAfter, start, one_more, IsFixed}
 use Rattle.scr_invariants.specs.Laws.{InvariantsHold}
 use Rattle.scr_invariants.proofs.OverRuns.{RunsKeep, runs_keep, HoldsEverywhere, kept_everywhere, in_every_state}

@@ -1,8 +1,9 @@
 -- The derived invariants of a class.
-use Rattle.std.specs.Prelude.{ℕ, List, IsTrue}
-use Rattle.std.specs.List.{list_all}
+use Rattle.std.specs.Prelude.{ℕ, List, length, IsTrue}
+use Rattle.std.specs.List.{list_all, filter, range_with_len}
 use Rattle.scr_spec.specs.Data.{Data}
 use Rattle.scr_spec.specs.Meaning.{Codes}
+use Rattle.scr_spec.specs.Tables.{is_class_at}
 use Rattle.scr_depend.specs.Dependencies.{graph_of}
 use Rattle.scr_depend.specs.Needs.{IsNeed}
 use Rattle.scr_next.specs.Runs.{IsInitial}
@@ -13,6 +14,10 @@ use Rattle.scr_invariants.specs.declared.derived.Derived.{Derived}
 use Rattle.scr_invariants.specs.declared.derived.Derived.TheVariants.{All, Undecided}
 use Rattle.scr_invariants.specs.Tests.{IsTested}
 use Rattle.scr_invariants.specs.Rounds.{IsDerived}
+
+-- the mode classes, in order of declaration
+abbrev pub classes_of : Data → List ℕ
+classes_of spec = filter (is_class_at spec) (range_with_len 0 (length spec.variables))
 
 -- what the rounds of tests of the candidates of the class end with
 pub record HasDerived (spec : Data) (order : List ℕ) (class limit : ℕ) (derived : Derived) : Type 0 where

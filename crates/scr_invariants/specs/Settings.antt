@@ -17,7 +17,8 @@ use Rattle.scr_invariants.specs.declared.setting.Setting.{Setting}
 use Rattle.scr_invariants.specs.declared.setting.Round.{Round}
 use Rattle.scr_invariants.specs.declared.change.Tested.{Tested}
 use Rattle.scr_invariants.specs.Formulas.{before_formula, moved_formulas}
-use Rattle.scr_invariants.specs.Tests.{monitored_variables, IsChangeTested, AreTested, IsTested}
+use Rattle.scr_goals.specs.Goals.{monitored_variables}
+use Rattle.scr_invariants.specs.Tests.{IsChangeTested, AreTested, IsTested}
 use Rattle.scr_invariants.specs.Rounds.{Tests}
 use Rattle.dd_store.specs.declared.store.TheConstants.{NODE_LIMIT}
 

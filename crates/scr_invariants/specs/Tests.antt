@@ -1,20 +1,15 @@
 -- The test of a candidate, and how it ends.
-use Rattle.std.specs.Prelude.{◌≡◌, ℕ, ◌<◌, ◌≤◌, false, List, [], ◌∷◌, length, IsTrue}
-use Rattle.std.specs.List.{filter, range_with_len}
+use Rattle.std.specs.Prelude.{◌≡◌, ℕ, ◌<◌, ◌≤◌, false, List, [], ◌∷◌, IsTrue}
 use Rattle.scr_spec.specs.Data.{Data}
 use Rattle.scr_spec.specs.Meaning.{Codes}
-use Rattle.scr_spec.specs.Relations.{is_monitored}
 use Rattle.scr_candidates.specs.declared.candidate.Candidate.{Candidate}
 use Rattle.scr_invariants.specs.declared.change.Tested.{Tested}
 use Rattle.scr_invariants.specs.declared.change.Tested.TheVariants.{Kept, Broken, Past}
 use Rattle.scr_decide.specs.Levels.{level_domains}
 use Rattle.scr_decide.specs.Counts.{nodes_listed}
+use Rattle.scr_goals.specs.Goals.{monitored_variables}
 use Rattle.scr_invariants.specs.Formulas.{test_formula}
 use Rattle.scr_invariants.specs.Holds.{holds_in, IsBrokenAt, IsKeptBy}
-
--- the monitored variables, in order of declaration
-abbrev pub monitored_variables : Data → List ℕ
-monitored_variables spec = filter (is_monitored spec) (range_with_len 0 (length spec.variables))
 
 -- how many distinct splits the trees of the listing of the test's formula have; each test is counted by itself
 unfoldable pub test_nodes : Data → List ℕ → List ℕ → ℕ → List Candidate → Candidate → ℕ → ℕ

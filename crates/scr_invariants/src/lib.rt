@@ -14,7 +14,7 @@ mod standing;
 mod trial;
 
 pub use derived::{Derived, Found};
-pub use formula::of_candidate;
+pub use formula::{of_candidate, push_frozen};
 pub use law::{invariants_hold, one_derived};
 pub use rounds::derive;
-pub use trial::{is_class, monitored};
+pub use trial::{classes, is_class, monitored};

@@ -1,7 +1,7 @@
 //! The tests of all candidates of a round. All are made where one variable changes before the next does,
 //! so that only the formulas of one change stand in memory.
 ghost use Rattle.std.specs.Prelude.{[], IfOk};
-ghost use Rattle.scr_invariants.specs.Tests.{monitored_variables};
+ghost use Rattle.scr_goals.specs.Goals.{monitored_variables};
 ghost use Rattle.scr_invariants.specs.Settings.{spec_in, IsBegun, IsMovedIn};
 ghost use Rattle.scr_invariants.specs.Steps.{AreStandingOver};
 ghost use Rattle.scr_invariants.specs.Outcomes.{AreOutcomes, AreNextOutcomes};

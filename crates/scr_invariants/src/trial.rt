@@ -5,7 +5,8 @@ ghost use Rattle.scr_spec.specs.Domains.{IsTyped};
 ghost use Rattle.scr_spec.specs.Tables.{is_class_at};
 ghost use Rattle.scr_candidates.specs.Candidates.{is_candidate_over};
 ghost use Rattle.scr_invariants.specs.Holds.{holds_in};
-ghost use Rattle.scr_invariants.specs.Tests.{monitored_variables};
+ghost use Rattle.scr_invariants.specs.Derivations.{classes_of};
+ghost use Rattle.scr_goals.specs.Goals.{monitored_variables};
 ghost use Rattle.scr_invariants.specs.Settings.{spec_in, IsBegun, IsMovedIn};
 ghost use Rattle.scr_invariants.specs.Outcomes.{IsOutcome, IsNextOutcome};
 
@@ -43,6 +44,20 @@ pub fn is_class(spec: &Spec, v: usize) -> bool
         Some(variable) => variable.role.is_class(),
         None => false,
     }
+}
+
+/// The mode classes, in order of declaration.
+#[tactic(auto, using(crate::proofs::Testing::monitored_laws))]
+pub fn classes(alloc: Global, spec: &Spec) -> Result<Items<usize>, NoMemory>
+    ensures { IfOk result (λ list. list ≡ classes_of (data_of spec.now)) }
+{
+    let mut out = Items::new(alloc);
+    for v in 0..spec.variables.len() {
+        if is_class(spec, v) {
+            out.push(v)?;
+        }
+    }
+    Ok(out)
 }
 
 /// Whether the class has another mode, or the condition is true.

@@ -3,8 +3,8 @@ use Rattle.std.specs.List.{list_all}
 use Rattle.scr_spec.specs.Shown.{data_of}
 use Rattle.scr_spec.specs.Tables.{is_class_at}
 use Rattle.scr_spec.specs.declared.spec.Spec.{Spec}
-use Rattle.scr_derive.specs.Derives.{classes_of}
-use Rattle.scr_derive.proofs.Derived.{classes_are}
+use Rattle.scr_invariants.specs.Derivations.{classes_of}
+use Rattle.scr_invariants.proofs.Testing.{classes_are}
 use Rattle.scr_derive.proofs.classes.derive_all.Goals as goal
 
 pub derive_each-requires-clause-classes : goal.derive_each-requires-clause-classes
