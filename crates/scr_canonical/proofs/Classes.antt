@@ -28,7 +28,7 @@ use Rattle.scr_names.specs.Meanings.{unknown}
 use Rattle.scr_names.specs.Declarations.{with_labels, place_of}
 use Rattle.scr_types.specs.Lines.{after}
 use Rattle.scr_types.proofs.NamesAt.{bytes_same}
-use Rattle.scr_canonical.specs.Entries.{label_entries, variable_entries}
+use Rattle.scr_names.specs.Entries.{label_entries, variable_entries}
 use Rattle.scr_canonical.proofs.Drafts.{first_mode, draft_variable, draft_variables}
 use Rattle.scr_canonical.proofs.Named.{names_in, names_append, label_names, or_right}
 use Rattle.scr_canonical.proofs.Declared.{Runs, step, runs_to, runs_join, no_statement, no_fault, not_again, name_added, labels_added, one_in, or_none, unknown_yet}

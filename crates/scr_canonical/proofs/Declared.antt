@@ -26,7 +26,7 @@ use Rattle.scr_types.specs.Draft.{Resolves, no_more, one_more}
 use Rattle.scr_types.proofs.NamesAt.{same_bytes, bytes_same}
 use Rattle.scr_canonical.proofs.Drafts.{draft_shape, draft_type, draft_constant}
 use Rattle.scr_canonical.proofs.TextRead.{numbered_from}
-use Rattle.scr_canonical.specs.Entries.{label_entries, type_entries, constant_entries}
+use Rattle.scr_names.specs.Entries.{label_entries, type_entries, constant_entries}
 use Rattle.scr_canonical.proofs.Named.{names_in, label_names, names_append, or_right, not_both}
 
 -- ---- statements one after another

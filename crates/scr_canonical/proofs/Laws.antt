@@ -20,7 +20,7 @@ use Rattle.scr_canonical.proofs.Good.{cond_good, spec_good}
 use Rattle.scr_canonical.proofs.SoundLines.{lines_sound}
 use Rattle.scr_canonical.proofs.Resolved.{state, cond_back}
 use Rattle.scr_canonical.proofs.Named.{are_named}
-use Rattle.scr_canonical.specs.Entries.{entries_of}
+use Rattle.scr_names.specs.Entries.{entries_of}
 use Rattle.scr_printer.specs.Text.{canonical}
 use Rattle.scr_canonical.proofs.Whole.{statements_resolve}
 use Rattle.scr_types.specs.Texts.{Spells}

@@ -29,7 +29,7 @@ use Rattle.scr_types.specs.Built.{mode_code}
 use Rattle.scr_types.proofs.NamesAt.{same_bytes}
 use Rattle.scr_types.proofs.RowModes.{same_code, code_same, used_named}
 use Rattle.scr_printer.specs.Names.{mode_name}
-use Rattle.scr_canonical.specs.Entries.{entries_of}
+use Rattle.scr_names.specs.Entries.{entries_of}
 use Rattle.scr_canonical.proofs.Drafts.{draft_modes}
 use Rattle.scr_canonical.proofs.Resolved.{state, first_none}
 use Rattle.scr_canonical.proofs.Named.{label_meaning, or_right, not_both}

@@ -25,7 +25,7 @@ use Rattle.scr_names.specs.Names.{Name, NameList, meaning_of}
 use Rattle.scr_names.specs.Meanings.{operand_meant, variable_meant}
 use Rattle.scr_names.specs.Sides.{operand_named}
 use Rattle.scr_types.proofs.NamesAt.{same_bytes, bytes_same}
-use Rattle.scr_canonical.specs.Entries.{label_entries, type_entries, constant_entries, variable_entries, entries_of}
+use Rattle.scr_names.specs.Entries.{label_entries, type_entries, constant_entries, variable_entries, entries_of}
 use Rattle.scr_printer.specs.Names.{constant_name, variable_name, name_at}
 use Rattle.scr_canonical.proofs.Drafts.{draft_operand}
 use Rattle.scr_canonical.proofs.Resolved.{state, AreNamed}

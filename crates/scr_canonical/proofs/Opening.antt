@@ -20,7 +20,7 @@ use Rattle.scr_names.specs.declared.meaning.Meaning.TheVariants as m
 use Rattle.scr_names.specs.Names.{NameList, meaning_of}
 use Rattle.scr_names.specs.Meanings.{nothing}
 use Rattle.scr_types.specs.Lines.{after}
-use Rattle.scr_canonical.specs.Entries.{label_entries, type_entries, constant_entries, entries_of}
+use Rattle.scr_names.specs.Entries.{label_entries, type_entries, constant_entries, entries_of}
 use Rattle.scr_printer.specs.Names.{type_name}
 use Rattle.scr_canonical.proofs.Drafts.{draft_type, draft_constant, draft_variables}
 use Rattle.scr_canonical.proofs.Good.{all_both}

@@ -27,7 +27,7 @@ use Rattle.scr_names.specs.declared.known.Known.{Known}
 use Rattle.scr_types.specs.Tables.{variable_unless, is_count}
 use Rattle.scr_types.specs.Built.{row_of}
 use Rattle.scr_types.specs.Lines.{after}
-use Rattle.scr_canonical.specs.Entries.{entries_of}
+use Rattle.scr_names.specs.Entries.{entries_of}
 use Rattle.scr_canonical.proofs.Drafts.{draft_cell, draft_modes, draft_row}
 use Rattle.scr_canonical.proofs.Resolved.{state}
 use Rattle.scr_canonical.proofs.CellsBack.{cells_back}

@@ -26,7 +26,7 @@ use Rattle.scr_names.specs.Names.{Name, NameList}
 use Rattle.scr_types.specs.Tables.{is_used, first_missing, missing_in, is_count}
 use Rattle.scr_types.specs.Lines.{after}
 use Rattle.scr_types.proofs.RowModes.{used_named}
-use Rattle.scr_canonical.specs.Entries.{entries_of}
+use Rattle.scr_names.specs.Entries.{entries_of}
 use Rattle.scr_canonical.proofs.Drafts.{draft_head, draft_row, draft_values, draft_table}
 use Rattle.scr_canonical.proofs.Good.{all_both}
 use Rattle.scr_canonical.proofs.Resolved.{state}

@@ -31,7 +31,7 @@ use Rattle.scr_types.specs.Built.{cells_with, row_with, row_from, rows_with}
 use Rattle.scr_types.specs.Lines.{after}
 use Rattle.scr_types.proofs.RowModes.{code_same, used_named}
 use Rattle.scr_printer.specs.Names.{mode_name}
-use Rattle.scr_canonical.specs.Entries.{entries_of}
+use Rattle.scr_names.specs.Entries.{entries_of}
 use Rattle.scr_canonical.proofs.Drafts.{cell_event, draft_event, draft_transition, draft_targets, draft_source}
 use Rattle.scr_canonical.proofs.Good.{all_both}
 use Rattle.scr_canonical.proofs.Resolved.{state}

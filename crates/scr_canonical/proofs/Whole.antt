@@ -27,7 +27,7 @@ use Rattle.scr_names.specs.Meanings.{nothing}
 use Rattle.scr_types.specs.Tables.{first_bare}
 use Rattle.scr_types.specs.Lines.{after}
 use Rattle.scr_types.specs.Draft.{DraftResolves}
-use Rattle.scr_canonical.specs.Entries.{entries_of}
+use Rattle.scr_names.specs.Entries.{entries_of}
 use Rattle.scr_canonical.proofs.Drafts.{draft_table, statements_of}
 use Rattle.scr_canonical.proofs.Good.{all_both}
 use Rattle.scr_canonical.proofs.TextRead.{numbered_from}

@@ -28,7 +28,7 @@ use Rattle.scr_printer.specs.declared.line.Behind.TheVariants.{Opening}
 use Rattle.scr_printer.specs.Spelling.{spaced}
 use Rattle.scr_printer.specs.Conds.{cond_words}
 use Rattle.scr_printer.specs.Text.{canonical}
-use Rattle.scr_canonical.specs.Entries.{entries_of}
+use Rattle.scr_names.specs.Entries.{entries_of}
 use Rattle.scr_types.specs.Texts.{Spells}
 
 -- a word that a line can have: a name of the language, or a number up to 1,000,000

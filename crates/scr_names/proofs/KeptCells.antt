@@ -1,5 +1,5 @@
 -- A cell that a text can say and that is well typed and within the bounds resolves to one that a specification may have.
-use Rattle.std.proofs.Common.{◌≡◌, suc, Bool, true, List, [], ◌∷◌, map, length, Option, Some, None, is_some, refl, ap, ◌∙◌}
+use Rattle.std.proofs.Common.{◌≡◌, suc, Bool, true, false, List, [], ◌∷◌, map, length, Option, Some, None, is_some, refl, ap, ◌∙◌}
 use Rattle.std.specs.Prelude.{nat_lt, nat_le, unwrap_or}
 use Rattle.std.specs.Option.{option_map_or, option_and_then}
 use Rattle.std.specs.List.{list_all}
@@ -39,7 +39,7 @@ use Rattle.scr_names.proofs.There.{is_there, NamesThere, meant_there}
 
 record CondTests (known : Known) (d : DraftCond) : Type 0 where
   within : is_cond_within d ≡ true
-  spelt : is_cond_spelt d ≡ true
+  spelt : is_cond_spelt false d ≡ true
   shallow : is_shallow d ≡ true
   typed : is_typed_cond known d ≡ true
   narrow : is_narrow_cond known d ≡ true
@@ -146,7 +146,7 @@ ceases_of : (known : Known) (d : DraftCond) → ChangeTests known (Ceases d) →
 ceases_of known d t = record { within = t.within; spelt = t.spelt; shallow = t.shallow; typed = t.typed; narrow = t.narrow }
 
 -- NEVER has no guard
-guard_spelt : (x : DraftChange) (d : DraftCond) → is_guard_spelt x (Some d) ≡ true → is_cond_spelt d ≡ true
+guard_spelt : (x : DraftChange) (d : DraftCond) → is_guard_spelt x (Some d) ≡ true → is_cond_spelt false d ≡ true
 guard_spelt (Becomes c) d h = h
 guard_spelt (Ceases c) d h = h
 guard_spelt (Changes n) d h = h
@@ -194,14 +194,14 @@ named_over spec (Some (m.Label owner place)) h k = absurd (cc)
 named_over spec (Some (m.Variable v)) h k = k
 
 change_over : (known : Known) → NamesThere known → (x : DraftChange) → ChangeTests known x → is_change_over (seen known) (change_of known x) ≡ true
-change_over known there (Becomes d) t = let c = becomes_of known d t in cond_over_kept known there d c.spelt c.narrow
-change_over known there (Ceases d) t = let c = ceases_of known d t in cond_over_kept known there d c.spelt c.narrow
+change_over known there (Becomes d) t = let c = becomes_of known d t in cond_over_kept known there false d c.spelt c.narrow
+change_over known there (Ceases d) t = let c = ceases_of known d t in cond_over_kept known there false d c.spelt c.narrow
 change_over known there (Changes n) t = named_over (seen known) (meant known n) t.typed (meant_there known there n)
 change_over known there Never t = refl
 
 guard_over : (known : Known) → NamesThere known → (x : DraftChange) (guard : Option DraftCond) → GuardTests known x guard → is_guard_over (seen known) (guard_of known guard) ≡ true
 guard_over known there x None t = refl
-guard_over known there x (Some d) t = let c = some_of known x d t in cond_over_kept known there d c.spelt c.narrow
+guard_over known there x (Some d) t = let c = some_of known x d t in cond_over_kept known there false d c.spelt c.narrow
 
 prims_over : (known : Known) → NamesThere known → (xs : List DraftPrim) → PrimsTests known xs → list_all (is_prim_over (seen known)) (map (prim_of known) xs) ≡ true
 prims_over known there [] t = refl
@@ -214,7 +214,7 @@ pub event_over_kept : (known : Known) → NamesThere known → (e : DraftEvent) 
 event_over_kept known there e t = prims_over known there e.prims (of_event known e t)
 
 pub cell_over_kept : (known : Known) → NamesThere known → (d : DraftCell) → CellTests known d → is_cell_over (seen known) (cell_of known d) ≡ true
-cell_over_kept known there (drawn.Cond d) t = cond_over_kept known there d t.spelt t.narrow
+cell_over_kept known there (drawn.Cond d) t = cond_over_kept known there false d t.spelt t.narrow
 cell_over_kept known there (drawn.Event e) t = event_over_kept known there e (event_of_cell known e t)
 
 -- ---- the form of an event

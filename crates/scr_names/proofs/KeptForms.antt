@@ -63,7 +63,7 @@ joined_two (t ∷ u ∷ ts) h = omega arith
 abbrev pub SidesKeep : Known → (Expr → Bool) → Type 0
 SidesKeep known p = (side : DraftSide) → is_side_spelt false side ≡ true → is_side_within side ≡ true → p (side_of known side) ≡ true
 
-sides_keep : (known : Known) (p : Expr → Bool) → SidesKeep known p → PartsKeep known spelt_step within_step (sides_step p)
+sides_keep : (known : Known) (p : Expr → Bool) → SidesKeep known p → PartsKeep known (spelt_step false) within_step (sides_step p)
 sides_keep known p keep = record {
   alone = λ side h k. alone_passes p known side.items;
   compared = λ l n r h k.
@@ -75,8 +75,8 @@ sides_keep known p keep = record {
   joined_by_or = λ rs ss ts f h k. all_follow f (joined_all rs h) k;
 }
 
-pub sides_kept : (known : Known) (p : Expr → Bool) → SidesKeep known p → (d : DraftCond) → is_cond_spelt d ≡ true → is_cond_within d ≡ true → sides_pass p (cond_of known d) ≡ true
-sides_kept known p keep d h k = cond_kept known spelt_step within_step (sides_step p) (sides_keep known p keep) d h k
+pub sides_kept : (known : Known) (p : Expr → Bool) → SidesKeep known p → (d : DraftCond) → is_cond_spelt false d ≡ true → is_cond_within d ≡ true → sides_pass p (cond_of known d) ≡ true
+sides_kept known p keep d h k = cond_kept known (spelt_step false) within_step (sides_step p) (sides_keep known p keep) d h k
 
 -- ---- no name is primed
 
@@ -112,7 +112,7 @@ side_plain : (known : Known) (side : DraftSide) → is_side_spelt false side ≡
 side_plain known side h = items_plain known side.items (some_all (is_item_spelt false) side.items h)
 
 -- no name of the condition is primed
-pub cond_plain_kept : (known : Known) (d : DraftCond) → is_cond_spelt d ≡ true → is_cond_within d ≡ true → sides_pass is_side_plain (cond_of known d) ≡ true
+pub cond_plain_kept : (known : Known) (d : DraftCond) → is_cond_spelt false d ≡ true → is_cond_within d ≡ true → sides_pass is_side_plain (cond_of known d) ≡ true
 cond_plain_kept known d h k = sides_kept known is_side_plain (λ side a b. side_plain known side a) d h k
 
 -- ---- sides and factors are within the limits
@@ -156,7 +156,7 @@ side_formed_kept known primes side h k =
     let few : nat_le (length (map (item_of known) side.items)) 8 ≡ true = ap (λ x. nat_le x 8) n ∙ l.0 in
     and_true _ _ (and_true _ _ one few) (items_formed known primes side.items (some_all (is_item_spelt primes) side.items h) (l.1))
 
-pub cond_formed_kept : (known : Known) (d : DraftCond) → is_cond_spelt d ≡ true → is_cond_within d ≡ true → sides_pass is_side_formed (cond_of known d) ≡ true
+pub cond_formed_kept : (known : Known) (d : DraftCond) → is_cond_spelt false d ≡ true → is_cond_within d ≡ true → sides_pass is_side_formed (cond_of known d) ≡ true
 cond_formed_kept known d h k = sides_kept known is_side_formed (side_formed_kept known false) d h k
 
 -- ---- AND and OR join at least two
@@ -181,7 +181,7 @@ alone_joins : (known : Known) (items : List DraftItem) → joins_several (alone_
 alone_joins known [] = truth_joins false
 alone_joins known (i ∷ is) = operand_joins (operand_of known i.operand)
 
-joins_keep : (known : Known) → PartsKeep known spelt_step spelt_step joins_step
+joins_keep : (known : Known) → PartsKeep known (spelt_step false) (spelt_step false) joins_step
 joins_keep known = record {
   alone = λ side h k. alone_joins known side.items;
   compared = λ l n r h k. refl;
@@ -190,5 +190,5 @@ joins_keep known = record {
   joined_by_or = several;
 }
 
-pub cond_joins_kept : (known : Known) (d : DraftCond) → is_cond_spelt d ≡ true → joins_several (cond_of known d) ≡ true
-cond_joins_kept known d h = cond_kept known spelt_step spelt_step joins_step (joins_keep known) d h h
+pub cond_joins_kept : (known : Known) (d : DraftCond) → is_cond_spelt false d ≡ true → joins_several (cond_of known d) ≡ true
+cond_joins_kept known d h = cond_kept known (spelt_step false) (spelt_step false) joins_step (joins_keep known) d h h

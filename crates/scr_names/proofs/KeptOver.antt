@@ -82,18 +82,19 @@ alone_over : (known : Known) → NamesThere known → (items : List DraftItem) �
 alone_over known there [] = truth_over (seen known) false
 alone_over known there (i ∷ is) = holds_over (seen known) (operand_of known i.operand) (operand_over known there i.operand)
 
-over_keep : (known : Known) → NamesThere known → PartsKeep known spelt_step (narrow_step known) (over_step (seen known))
-over_keep known there = record {
+over_keep : (known : Known) → NamesThere known → (primes : Bool) → PartsKeep known (spelt_step primes) (narrow_step known) (over_step (seen known))
+over_keep known there primes = record {
   alone = λ side h k. alone_over known there side.items;
   compared = λ l n r h k.
-      let a = and_parts (is_side_spelt false l) (is_side_spelt false n) h in
+      let a = and_parts (is_side_spelt primes l) (is_side_spelt primes n) h in
       let b = and_parts (is_narrow_side known l) (is_narrow_side known n) k in
-      and_true _ _ (side_over_kept known there false l (a.0) (b.0)) (side_over_kept known there false n (a.1) (b.1));
+      and_true _ _ (side_over_kept known there primes l (a.0) (b.0)) (side_over_kept known there primes n (a.1) (b.1));
   negated = λ r s t f h k. f h k;
   joined_by_and = λ rs ss ts f h k. all_follow f (joined_all rs h) k;
   joined_by_or = λ rs ss ts f h k. all_follow f (joined_all rs h) k;
 }
 
 -- a condition that is spelt and within the bounds
-pub cond_over_kept : (known : Known) → NamesThere known → (d : DraftCond) → is_cond_spelt d ≡ true → is_narrow_cond known d ≡ true → is_cond_over (seen known) (cond_of known d) ≡ true
-cond_over_kept known there d h k = cond_kept known spelt_step (narrow_step known) (over_step (seen known)) (over_keep known there) d h k
+pub cond_over_kept : (known : Known) → NamesThere known → (primes : Bool) (d : DraftCond) → is_cond_spelt primes d ≡ true → is_narrow_cond known d ≡ true
+    → is_cond_over (seen known) (cond_of known d) ≡ true
+cond_over_kept known there primes d h k = cond_kept known (spelt_step primes) (narrow_step known) (over_step (seen known)) (over_keep known there primes) d h k

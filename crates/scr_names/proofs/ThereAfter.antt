@@ -99,7 +99,7 @@ with_variable_more spec x = record {
 -- ---- names
 
 -- one more name
-name_there : (spec : Data) (names : NameList) (n : Name) (meaning : Meaning) → are_there spec names ≡ true → is_there spec meaning ≡ true → are_there spec (with_name names n meaning) ≡ true
+pub name_there : (spec : Data) (names : NameList) (n : Name) (meaning : Meaning) → are_there spec names ≡ true → is_there spec meaning ≡ true → are_there spec (with_name names n meaning) ≡ true
 name_there spec names n meaning h k = by (is_known names n)
   where
     by : (b : Bool) → are_there spec (if b then names else names ++ (n, meaning) ∷ []) ≡ true

@@ -15,7 +15,7 @@ use scr_text::{Name, NoMemory};
 use sqlite_items::Items;
 use std::alloc::Global;
 
-fn copy_names(alloc: Global, names: &[Name]) -> Result<Items<Name>, NoMemory>
+pub(crate) fn copy_names(alloc: Global, names: &[Name]) -> Result<Items<Name>, NoMemory>
     ensures { IfOk result (λ copy. copy ≡ names.now) }
 {
     let mut copy = Items::new(alloc);
@@ -26,7 +26,7 @@ fn copy_names(alloc: Global, names: &[Name]) -> Result<Items<Name>, NoMemory>
 }
 
 /// Declares the names with their places in the list.
-fn add_labels(
+pub(crate) fn add_labels(
     alloc: Global,
     names: &mut Names,
     owner: Owner,
@@ -55,7 +55,7 @@ fn place_of(names: &[Name], name: &Name) -> usize
     find(names, name.as_slice()).unwrap_or(0)
 }
 
-fn copy_kind(alloc: Global, kind: &Kind) -> Result<Kind, NoMemory>
+pub(crate) fn copy_kind(alloc: Global, kind: &Kind) -> Result<Kind, NoMemory>
     ensures { IfOk result (λ copy. copy ≡ kind.now) }
 {
     match kind {

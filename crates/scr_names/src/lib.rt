@@ -1,5 +1,5 @@
-//! What the lines of a specification declare, and what the names in sides, conditions and events
-//! stand for.
+//! What a specification, or its lines so far, declares, and what the names in sides, conditions and
+//! events stand for.
 #![tactic(auto)]
 
 mod added;
@@ -12,9 +12,11 @@ mod known;
 mod meaning;
 mod names;
 mod side;
+mod specified;
 mod value;
 
 pub use first::{is_among, unless};
 pub use known::Known;
 pub use meaning::Meaning;
 pub use names::Names;
+pub use side::has_primes;

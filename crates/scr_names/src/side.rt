@@ -42,7 +42,8 @@ fn is_primed(item: &DraftItem) -> bool
     matches!(&item.operand, DraftOperand::Primed(_))
 }
 
-fn has_primes(side: &DraftSide) -> bool
+/// Whether a name in the side is primed.
+pub fn has_primes(side: &DraftSide) -> bool
     ensures { result ≡ list_any spec.is_primed side.now.items }
 {
     side.items.as_slice().iter().any(is_primed)

@@ -1,11 +1,10 @@
 -- A text is read or refused: that it is neither is absurd.
-use Rattle.std.proofs.Common.{◌≡◌, ◌≢◌, ◌⊎◌, inl, inr, ℕ, ◌+◌, ◌<◌, ◌≤◌, Bool, true, false, List, [], ◌∷◌, ◌++◌, length, Option, Some, None, refl, arith}
+use Rattle.std.proofs.Common.{◌≡◌, ◌≢◌, ◌⊎◌, inl, inr, ℕ, ◌+◌, ◌<◌, Bool, true, false, List, [], ◌∷◌, ◌++◌, length, Option, Some, None, refl, arith}
 use Rattle.std.specs.Prelude.{nat_le}
-use Rattle.std.specs.List.{list_all}
 use Rattle.std.proofs.lemmas.Bool.Decides.{nat_tests}
 use Rattle.scr_text.specs.declared.word.Token.{Token}
 use Rattle.scr_text.specs.Lines.{lines}
-use Rattle.scr_text.specs.Tokens.{Tokens, IsLexed, body, is_allowed, is_small}
+use Rattle.scr_text.specs.Tokens.{IsLexed}
 use Rattle.scr_reader.specs.declared.draft.Statement.{Statement}
 use Rattle.scr_reader.specs.declared.draft.Numbered.{Numbered}
 use Rattle.scr_reader.specs.declared.place.Place.{Place}
@@ -17,7 +16,8 @@ use Rattle.scr_reader.specs.declared.place.TextFault.TheVariants as fault
 use Rattle.scr_reader.specs.Words.{words}
 use Rattle.scr_reader.specs.Forms.{Form}
 use Rattle.scr_reader.specs.Limits.{is_line_within, is_statement_within, counted, is_count_within}
-use Rattle.scr_reader.specs.Text.{LineReads, blank, says, LineRefuses, Reads, no_line, line_more, Refused, here, later, unfinished, numbered, start, TextReads, TextRefuses}
+use Rattle.scr_reader.specs.Text.{LineReads, blank, says, WordsRefuse, LineRefuses, Reads, no_line, line_more, Refused, here, later, unfinished, numbered, start, TextReads, TextRefuses}
+use Rattle.scr_reader.proofs.RefusedOnce.{lexed_or_refused}
 
 -- the line is not read
 abbrev NotRead : Position → List ℕ → Type 0
@@ -66,20 +66,9 @@ by_tokens position line [] lexed unread unrefused = unread None position (blank 
 by_tokens position line (token ∷ tokens) lexed unread unrefused =
     by_words position line (token ∷ tokens) lexed (omega arith) (is_line_within (words (token ∷ tokens))) refl unread unrefused
 
-by_size : (position : Position) (line : List ℕ) → length line ≤ 4096 → list_all is_allowed (body line) ≡ true → (tokens : List Token) → Tokens 0 (body line) tokens
-    → (b : Bool) → list_all is_small tokens ≡ b → NotRead position line → NotRefused position line → ⊥
-by_size position line short allowed tokens cut true e unread unrefused =
-    by_tokens position line tokens (record { short = short; allowed = allowed; cut = cut; small = e }) unread unrefused
-by_size position line short allowed tokens cut false e unread unrefused = unrefused k.Limit (inl (inr (allowed, tokens, cut, e)))
-
-by_bytes : (position : Position) (line : List ℕ) → length line ≤ 4096 → (b : Bool) → list_all is_allowed (body line) ≡ b → NotRead position line → NotRefused position line → ⊥
-by_bytes position line short true e unread unrefused =
-    unrefused k.Syntax (inl (short, e, λ tokens cut. by_size position line short e tokens cut (list_all is_small tokens) refl unread unrefused))
-by_bytes position line short false e unread unrefused = unrefused k.Byte (short, e)
-
-by_length : (position : Position) (line : List ℕ) (b : Bool) → nat_le (length line) 4096 ≡ b → NotRead position line → NotRefused position line → ⊥
-by_length position line true e unread unrefused = by_bytes position line (grind (arith, nat_tests)) (list_all is_allowed (body line)) refl unread unrefused
-by_length position line false e unread unrefused = unrefused k.Limit (inl (inl (grind (arith, nat_tests))))
+some_line : (position : Position) (line : List ℕ) → NotRead position line → NotRefused position line → ⊥
+some_line position line unread unrefused =
+    lexed_or_refused (WordsRefuse position) line (λ tokens lexed. by_tokens position line tokens lexed unread unrefused) unrefused
 
 -- ---- the lines
 
@@ -103,7 +92,7 @@ some_lines : (position : Position) (n : ℕ) (ls : List (List ℕ))
     → ((draft : List Numbered) (last : Position) → Reads position n ls draft last → last.place ≡ p.After → ⊥)
     → ((m : ℕ) (kind : TextKind) → Refused position n ls m kind → ⊥) → ⊥
 some_lines position n [] unread unrefused = by_place position n (is_after position.place) unread unrefused
-some_lines position n (line ∷ more) unread unrefused = by_length position line (nat_le (length line) 4096) refl
+some_lines position n (line ∷ more) unread unrefused = some_line position line
     (λ statement next says_so. some_lines next (n + 1) more
     (λ draft last reads e. unread (numbered n statement ++ draft) last (line_more says_so reads) e)
     (λ m kind refused. unrefused m kind (later says_so refused)))

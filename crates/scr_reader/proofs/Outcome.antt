@@ -1,12 +1,9 @@
 -- A text has one outcome.
-use Rattle.std.proofs.Common.{◌≡◌, ◌≢◌, ◌⊎◌, inl, inr, ℕ, false, List, [], ◌++◌, length, refl, sym, ap, ap₂, subst, ◌∙◌, arith}
+use Rattle.std.proofs.Common.{◌≡◌, ◌⊎◌, inl, inr, ℕ, false, List, [], ◌++◌, refl, sym, ap, ap₂, subst, ◌∙◌, arith}
 use Rattle.std.specs.Prelude.{Option, Some}
-use Rattle.scr_text.specs.declared.fault.LexFault.{LexFault}
-use Rattle.scr_text.specs.declared.fault.LexFault.TheVariants as f
 use Rattle.scr_text.specs.declared.word.Token.{Token}
 use Rattle.scr_text.specs.declared.word.Word.{Word}
-use Rattle.scr_text.specs.Tokens.{IsLexed, Refuses}
-use Rattle.scr_text.proofs.Cutting.{lexed_once, lexed_apart, refused_once}
+use Rattle.scr_text.proofs.Cutting.{lexed_once}
 use Rattle.scr_reader.specs.declared.draft.Statement.{Statement}
 use Rattle.scr_reader.specs.declared.draft.Numbered.{Numbered}
 use Rattle.scr_reader.specs.declared.place.Place.{Place}
@@ -16,11 +13,12 @@ use Rattle.scr_reader.specs.declared.place.TextKind.{TextKind}
 use Rattle.scr_reader.specs.declared.place.TextKind.TheVariants as k
 use Rattle.scr_reader.specs.declared.place.TextFault.TheVariants as fault
 use Rattle.scr_reader.specs.Words.{words}
-use Rattle.scr_reader.specs.Forms.{Form}
+use Rattle.scr_reader.specs.Forms.{Form, NoForm}
 use Rattle.scr_reader.specs.Limits.{is_statement_within, counted, is_count_within}
 use Rattle.scr_reader.proofs.Existence.{some_outcome}
-use Rattle.scr_reader.specs.Text.{Says, LineReads, blank, says, WordsRefuse, TokensRefuse, LineRefuses, numbered, Reads, no_line, line_more, Refused, here, later, unfinished, TextReads, TextRefuses, OneOutcome}
+use Rattle.scr_reader.specs.Text.{Says, LineReads, blank, says, PassesLimit, WordsRefuse, LineRefuses, numbered, Reads, no_line, line_more, Refused, here, later, unfinished, TextReads, TextRefuses, OneOutcome}
 use Rattle.scr_reader.proofs.FormsOnce.{form_once}
+use Rattle.scr_reader.proofs.RefusedOnce.{words_kind, by_its_words, line_kind}
 
 -- ---- the words of a line
 
@@ -49,20 +47,9 @@ words_apart s k.Limit (inl h) = let e = s.line_within in cc
 words_apart s k.Limit (inr (_, (_, _, d, h))) = within_limits s (form_once s.form d).0 h
 words_apart s k.End h = h
 
--- words are refused in one way
-words_kind : (position : Position) (from : List Word) (i j : TextKind) → WordsRefuse position from i → WordsRefuse position from j → i ≡ j
-words_kind position from k.Byte j h g = absurd h
-words_kind position from k.End j h g = absurd h
-words_kind position from k.Syntax k.Byte h g = absurd g
-words_kind position from k.Syntax k.Syntax h g = refl
-words_kind position from k.Syntax k.Limit h (inl g) = let e = h.0 in cc
-words_kind position from k.Syntax k.Limit h (inr (_, (_, _, d, _))) = absurd (h.1 _ _ d)
-words_kind position from k.Syntax k.End h g = absurd g
-words_kind position from k.Limit k.Byte h g = absurd g
-words_kind position from k.Limit k.Syntax (inl h) g = let e = g.0 in cc
-words_kind position from k.Limit k.Syntax (inr (_, (_, _, d, _))) g = absurd (g.1 _ _ d)
-words_kind position from k.Limit k.Limit h g = refl
-words_kind position from k.Limit k.End h g = absurd g
+-- words that have no form pass no limit
+no_limit : (position : Position) (from : List Word) → NoForm position.place from → PassesLimit position from → ⊥
+no_limit position from h (statement, next, form, _) = h statement next form
 
 -- ---- a line
 
@@ -78,10 +65,6 @@ says_of : {position next : Position} {tokens more : List Token} {statement : Sta
     → Says position (words tokens) statement next
 says_of {position} {next} {statement = statement} e s = subst (λ tokens. Says position (words tokens) statement next) (sym e) s
 
-refuse_of : (position : Position) (kind : TextKind) (tokens more : List Token) → tokens ≡ more → WordsRefuse position (words more) kind
-    → WordsRefuse position (words tokens) kind
-refuse_of position kind tokens more e h = subst (λ tokens. WordsRefuse position (words tokens) kind) (sym e) h
-
 -- a line says one thing
 line_once : {position next other : Position} {line : List ℕ} {a b : Option Statement} → LineReads position line a next → LineReads position line b other
     → (a ≡ b) × (next ≡ other)
@@ -90,56 +73,14 @@ line_once (blank l) (says m s) = absurd (no_words (says_of (lexed_once l m) s))
 line_once (says l s) (blank m) = absurd (no_words (says_of (lexed_once m l) s))
 line_once (says l s) (says m t) = let same = says_once s (says_of (lexed_once l m) t) in (ap (λ a. Some a) same.0, same.1)
 
--- the tokens of a line that is read
-lexed : {position next : Position} {line : List ℕ} {a : Option Statement} → LineReads position line a next → (tokens : List Token) × IsLexed line tokens
-lexed (blank l) = (_, l)
-lexed (says l s) = (_, l)
-
--- a line that is read has no faulty tokens
-lex_apart : {position next : Position} {line : List ℕ} {a : Option Statement} (fault : LexFault) → fault ≢ f.NoMemory → LineReads position line a next → Refuses line fault → ⊥
-lex_apart fault n l h = lexed_apart fault n (lexed l).1 h
-
--- a line that is read has no words that are refused
-tokens_apart : {position next : Position} {line : List ℕ} {a : Option Statement} (kind : TextKind) → LineReads position line a next → TokensRefuse position line kind → ⊥
-tokens_apart kind (blank l) (tokens, m, h, g) = let e = ap (λ (ts : List Token). length ts) (lexed_once l m) in absurd (omega arith)
-tokens_apart kind (says {tokens = tokens} l s) (more, m, h, g) = words_apart s kind (refuse_of _ _ tokens more (lexed_once l m) g)
-
 -- a line that is read is not refused
 line_apart : {position next : Position} {line : List ℕ} {a : Option Statement} → LineReads position line a next → (kind : TextKind) → LineRefuses position line kind → ⊥
-line_apart l k.Byte h = lex_apart f.Byte (λ e. cc) l h
-line_apart l k.Syntax (inl h) = lex_apart f.Syntax (λ e. cc) l h
-line_apart l k.Syntax (inr h) = tokens_apart k.Syntax l h
-line_apart l k.Limit (inl h) = lex_apart f.Limit (λ e. cc) l h
-line_apart l k.Limit (inr h) = tokens_apart k.Limit l h
-line_apart l k.End h = h
-
--- the kind of a fault of tokens
-kind_of : LexFault → TextKind
-kind_of f.Byte = k.Byte
-kind_of f.Syntax = k.Syntax
-kind_of f.Limit = k.Limit
-kind_of f.NoMemory = k.Limit
-
--- a line is refused by its tokens or by its words
-data Cause (position : Position) (line : List ℕ) (kind : TextKind) : Type 0 where
-  by_tokens : {fault : LexFault} → fault ≢ f.NoMemory → Refuses line fault → kind ≡ kind_of fault → Cause position line kind
-  by_words : TokensRefuse position line kind → Cause position line kind
-
-cause : (position : Position) (line : List ℕ) (kind : TextKind) → LineRefuses position line kind → Cause position line kind
-unfolding kind_of
-cause position line k.Byte h = by_tokens {fault = f.Byte} (λ e. cc) h refl
-cause position line k.Syntax (inl h) = by_tokens {fault = f.Syntax} (λ e. cc) h refl
-cause position line k.Syntax (inr h) = by_words h
-cause position line k.Limit (inl h) = by_tokens {fault = f.Limit} (λ e. cc) h refl
-cause position line k.Limit (inr h) = by_words h
-cause position line k.End h = absurd h
+line_apart {position} (blank l) kind h = let none = (by_its_words (WordsRefuse position) kind l h).0 in absurd (omega (arith, none))
+line_apart {position} (says l s) kind h = words_apart s kind (by_its_words (WordsRefuse position) kind l h).1
 
 -- a line is refused in one way
-line_kind : (position : Position) (line : List ℕ) (i j : TextKind) → Cause position line i → Cause position line j → i ≡ j
-line_kind position line i j (by_tokens n h e) (by_tokens m g d) = let same = ap kind_of (refused_once line _ _ n m h g) in cc
-line_kind position line i j (by_tokens {fault = fault} n h e) (by_words (tokens, l, _, _)) = absurd (lexed_apart fault n l h)
-line_kind position line i j (by_words (tokens, l, _, _)) (by_tokens {fault = fault} m g d) = absurd (lexed_apart fault m l g)
-line_kind position line i j (by_words (tokens, l, _, h)) (by_words (more, m, _, g)) = words_kind position (words tokens) i j h (refuse_of _ _ tokens more (lexed_once l m) g)
+line_refused_once : (position : Position) (line : List ℕ) (i j : TextKind) → LineRefuses position line i → LineRefuses position line j → i ≡ j
+line_refused_once position line i j h g = line_kind (WordsRefuse position) (λ from i j. words_kind (no_limit position from) from i j) line i j h g
 
 -- ---- the lines
 
@@ -161,7 +102,7 @@ apart (line_more l r) e (here h) = line_apart l _ h
 apart (line_more l r) e (later m d) = let same = line_once l m in apart r e (refused_in same.1 d)
 
 refused_same : {position : Position} {n a b : ℕ} {ls : List (List ℕ)} {i j : TextKind} → Refused position n ls a i → Refused position n ls b j → (a ≡ b) × (i ≡ j)
-refused_same {position} (here {line = line} h) (here g) = (refl, line_kind position line _ _ (cause position line _ h) (cause position line _ g))
+refused_same {position} (here {line = line} h) (here g) = (refl, line_refused_once position line _ _ h g)
 refused_same (here h) (later m d) = absurd (line_apart m _ h)
 refused_same (later m d) (here g) = absurd (line_apart m _ g)
 refused_same (later m d) (later l e) = let same = line_once m l in refused_same d (refused_in same.1 e)

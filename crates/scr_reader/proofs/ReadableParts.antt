@@ -141,33 +141,33 @@ side_small {primes} (minus_side {item = item} {items = items} d ds) k =
 
 -- ---- conditions
 
-spelt_Alone : (l : DraftSide) → is_cond_spelt (c.Alone l) ≡ is_side_spelt false l
-spelt_Alone l = ap is_cond_spelt (sym (c.rolls-Alone l)) ∙ fold-roll-DraftCond Bool spelt_step (layer.Alone l)
+spelt_Alone : (primes : Bool) (l : DraftSide) → is_cond_spelt primes (c.Alone l) ≡ is_side_spelt primes l
+spelt_Alone primes l = ap (is_cond_spelt primes) (sym (c.rolls-Alone l)) ∙ fold-roll-DraftCond Bool (spelt_step primes) (layer.Alone l)
 
-spelt_Compare : (l m : DraftSide) (relation : Relation) → is_cond_spelt (c.Compare l relation m) ≡ (is_side_spelt false l && is_side_spelt false m)
-spelt_Compare l m relation = ap is_cond_spelt (sym (c.rolls-Compare l relation m)) ∙ fold-roll-DraftCond Bool spelt_step (layer.Compare l relation m)
+spelt_Compare : (primes : Bool) (l m : DraftSide) (relation : Relation) → is_cond_spelt primes (c.Compare l relation m) ≡ (is_side_spelt primes l && is_side_spelt primes m)
+spelt_Compare primes l m relation = ap (is_cond_spelt primes) (sym (c.rolls-Compare l relation m)) ∙ fold-roll-DraftCond Bool (spelt_step primes) (layer.Compare l relation m)
 
-spelt_Not : (d : DraftCond) → is_cond_spelt (c.Not d) ≡ is_cond_spelt d
-spelt_Not d = ap is_cond_spelt (sym (c.rolls-Not d)) ∙ fold-roll-DraftCond Bool spelt_step (layer.Not d)
+spelt_Not : (primes : Bool) (d : DraftCond) → is_cond_spelt primes (c.Not d) ≡ is_cond_spelt primes d
+spelt_Not primes d = ap (is_cond_spelt primes) (sym (c.rolls-Not d)) ∙ fold-roll-DraftCond Bool (spelt_step primes) (layer.Not d)
 
-spelt_And : (ds : List DraftCond) → is_cond_spelt (c.And ds) ≡ are_joined (map is_cond_spelt ds)
-spelt_And ds = ap is_cond_spelt (sym (c.rolls-And ds)) ∙ fold-roll-DraftCond Bool spelt_step (layer.And ds)
+spelt_And : (primes : Bool) (ds : List DraftCond) → is_cond_spelt primes (c.And ds) ≡ are_joined (map (is_cond_spelt primes) ds)
+spelt_And primes ds = ap (is_cond_spelt primes) (sym (c.rolls-And ds)) ∙ fold-roll-DraftCond Bool (spelt_step primes) (layer.And ds)
 
-spelt_Or : (ds : List DraftCond) → is_cond_spelt (c.Or ds) ≡ are_joined (map is_cond_spelt ds)
-spelt_Or ds = ap is_cond_spelt (sym (c.rolls-Or ds)) ∙ fold-roll-DraftCond Bool spelt_step (layer.Or ds)
+spelt_Or : (primes : Bool) (ds : List DraftCond) → is_cond_spelt primes (c.Or ds) ≡ are_joined (map (is_cond_spelt primes) ds)
+spelt_Or primes ds = ap (is_cond_spelt primes) (sym (c.rolls-Or ds)) ∙ fold-roll-DraftCond Bool (spelt_step primes) (layer.Or ds)
 
-two_joined : (d e : DraftCond) (ds : List DraftCond) → list_all is_cond_spelt (d ∷ e ∷ ds) ≡ true → are_joined (map is_cond_spelt (d ∷ e ∷ ds)) ≡ true
-two_joined d e ds h = list_all-map (λ t. t) is_cond_spelt (d ∷ e ∷ ds) ∙ h
+two_joined : (primes : Bool) (d e : DraftCond) (ds : List DraftCond) → list_all (is_cond_spelt primes) (d ∷ e ∷ ds) ≡ true → are_joined (map (is_cond_spelt primes) (d ∷ e ∷ ds)) ≡ true
+two_joined primes d e ds h = list_all-map (λ t. t) (is_cond_spelt primes) (d ∷ e ∷ ds) ∙ h
 
-pub all_spelt : (ds : List DraftCond) → are_some is_cond_spelt ds ≡ true → is_cond_spelt (all_of ds) ≡ true
-all_spelt [] h = absurd (cc)
-all_spelt (d ∷ []) h = (and_parts (is_cond_spelt d) true h).0
-all_spelt (d ∷ e ∷ ds) h = spelt_And (d ∷ e ∷ ds) ∙ two_joined d e ds h
+pub all_spelt : (primes : Bool) (ds : List DraftCond) → are_some (is_cond_spelt primes) ds ≡ true → is_cond_spelt primes (all_of ds) ≡ true
+all_spelt primes [] h = absurd (cc)
+all_spelt primes (d ∷ []) h = (and_parts (is_cond_spelt primes d) true h).0
+all_spelt primes (d ∷ e ∷ ds) h = spelt_And primes (d ∷ e ∷ ds) ∙ two_joined primes d e ds h
 
-pub any_spelt : (ds : List DraftCond) → are_some is_cond_spelt ds ≡ true → is_cond_spelt (any_of ds) ≡ true
-any_spelt [] h = absurd (cc)
-any_spelt (d ∷ []) h = (and_parts (is_cond_spelt d) true h).0
-any_spelt (d ∷ e ∷ ds) h = spelt_Or (d ∷ e ∷ ds) ∙ two_joined d e ds h
+pub any_spelt : (primes : Bool) (ds : List DraftCond) → are_some (is_cond_spelt primes) ds ≡ true → is_cond_spelt primes (any_of ds) ≡ true
+any_spelt primes [] h = absurd (cc)
+any_spelt primes (d ∷ []) h = (and_parts (is_cond_spelt primes d) true h).0
+any_spelt primes (d ∷ e ∷ ds) h = spelt_Or primes (d ∷ e ∷ ds) ∙ two_joined primes d e ds h
 
 -- one more in front
 more_spelt : {X : Type 0} (test : X → Bool) (x : X) (xs : List X) → test x ≡ true → are_some test xs ≡ true → are_some test (x ∷ xs) ≡ true
@@ -178,36 +178,38 @@ one_spelt : {X : Type 0} (test : X → Bool) (x : X) → test x ≡ true → are
 one_spelt test x h = and_true (test x) true h refl
 
 mutual
-  pub lit_small : {n : ℕ} {from rest : List Word} {d : DraftCond} → Lit false from d rest → AreSmall n from → (is_cond_spelt d ≡ true) × AreSmall n rest
-  lit_small (alone {l = l} d e) k = let one = side_small d k in (spelt_Alone l ∙ one.0, one.1)
-  lit_small (compare {l = l} {m = m} {relation = relation} d e) k =
+  pub lit_small : {primes : Bool} {n : ℕ} {from rest : List Word} {d : DraftCond} → Lit primes from d rest → AreSmall n from → (is_cond_spelt primes d ≡ true) × AreSmall n rest
+  lit_small {primes} (alone {l = l} d e) k = let one = side_small d k in (spelt_Alone primes l ∙ one.0, one.1)
+  lit_small {primes} (compare {l = l} {m = m} {relation = relation} d e) k =
       let one = side_small d k in
       let other = side_small e (behind one.1) in
-      (spelt_Compare l m relation ∙ and_true (is_side_spelt false l) (is_side_spelt false m) one.0 other.0, other.1)
-  lit_small (negated {d = d} l) k = let one = lit_small l (behind k) in (spelt_Not d ∙ one.0, one.1)
-  lit_small (nested {ds = ds} l) k = let one = cond_small l (behind k) in (any_spelt ds one.0, behind one.1)
+      (spelt_Compare primes l m relation ∙ and_true (is_side_spelt primes l) (is_side_spelt primes m) one.0 other.0, other.1)
+  lit_small {primes} (negated {d = d} l) k = let one = lit_small l (behind k) in (spelt_Not primes d ∙ one.0, one.1)
+  lit_small {primes} (nested {ds = ds} l) k = let one = cond_small l (behind k) in (any_spelt primes ds one.0, behind one.1)
 
-  pub conj_small : {n : ℕ} {from rest : List Word} {ds : List DraftCond} → Conj false from ds rest → AreSmall n from → (are_some is_cond_spelt ds ≡ true) × AreSmall n rest
-  conj_small (last_lit {d = d} l e) k = let one = lit_small l k in (one_spelt is_cond_spelt d one.0, one.1)
-  conj_small (lit_and {d = d} {ds = ds} l ls) k =
+  pub conj_small : {primes : Bool} {n : ℕ} {from rest : List Word} {ds : List DraftCond} → Conj primes from ds rest → AreSmall n from
+      → (are_some (is_cond_spelt primes) ds ≡ true) × AreSmall n rest
+  conj_small {primes} (last_lit {d = d} l e) k = let one = lit_small l k in (one_spelt (is_cond_spelt primes) d one.0, one.1)
+  conj_small {primes} (lit_and {d = d} {ds = ds} l ls) k =
       let one = lit_small l k in
-      let more = conj_small ls (behind one.1) in (more_spelt is_cond_spelt d ds one.0 more.0, more.1)
+      let more = conj_small ls (behind one.1) in (more_spelt (is_cond_spelt primes) d ds one.0 more.0, more.1)
 
-  pub cond_small : {n : ℕ} {from rest : List Word} {ds : List DraftCond} → Cond false from ds rest → AreSmall n from → (are_some is_cond_spelt ds ≡ true) × AreSmall n rest
-  cond_small (last_conj {ds = ds} l e) k = let one = conj_small l k in (one_spelt is_cond_spelt (all_of ds) (all_spelt ds one.0), one.1)
-  cond_small (conj_or {ds = ds} {es = es} l ls) k =
+  pub cond_small : {primes : Bool} {n : ℕ} {from rest : List Word} {ds : List DraftCond} → Cond primes from ds rest → AreSmall n from
+      → (are_some (is_cond_spelt primes) ds ≡ true) × AreSmall n rest
+  cond_small {primes} (last_conj {ds = ds} l e) k = let one = conj_small l k in (one_spelt (is_cond_spelt primes) (all_of ds) (all_spelt primes ds one.0), one.1)
+  cond_small {primes} (conj_or {ds = ds} {es = es} l ls) k =
       let one = conj_small l k in
-      let more = cond_small ls (behind one.1) in (more_spelt is_cond_spelt (all_of ds) es (all_spelt ds one.0) more.0, more.1)
+      let more = cond_small ls (behind one.1) in (more_spelt (is_cond_spelt primes) (all_of ds) es (all_spelt primes ds one.0) more.0, more.1)
 
 -- ---- events
 
 change_small : {n : ℕ} {from rest : List Word} {d : DraftChange} → Change from d rest → AreSmall n from → (is_change_spelt d ≡ true) × AreSmall n rest
-change_small (becomes {ds = ds} l) k = let one = cond_small l (behind (behind k)) in (any_spelt ds one.0, behind one.1)
-change_small (ceases {ds = ds} l) k = let one = cond_small l (behind (behind k)) in (any_spelt ds one.0, behind one.1)
+change_small (becomes {ds = ds} l) k = let one = cond_small l (behind (behind k)) in (any_spelt false ds one.0, behind one.1)
+change_small (ceases {ds = ds} l) k = let one = cond_small l (behind (behind k)) in (any_spelt false ds one.0, behind one.1)
 change_small (changes {name = name} {rest = rest}) k = (first (w.Name name) (w.Sign s.CloseParen ∷ rest) (behind (behind k)), behind (behind (behind (behind k))))
 
 -- a change with a guard is not NEVER
-guard_spelt : {from rest : List Word} {d : DraftChange} (guard : DraftCond) → Change from d rest → is_cond_spelt guard ≡ true → is_guard_spelt d (Some guard) ≡ true
+guard_spelt : {from rest : List Word} {d : DraftChange} (guard : DraftCond) → Change from d rest → is_cond_spelt false guard ≡ true → is_guard_spelt d (Some guard) ≡ true
 guard_spelt guard (becomes l) h = h
 guard_spelt guard (ceases l) h = h
 guard_spelt guard changes h = h
@@ -218,7 +220,7 @@ prim_small (unguarded {d = d} l e) k = let one = change_small l k in (and_true (
 prim_small (guarded {d = d} {ds = ds} l ls) k =
     let one = change_small l k in
     let more = conj_small ls (behind one.1) in
-    (and_true (is_change_spelt d) (is_guard_spelt d (Some (all_of ds))) one.0 (guard_spelt (all_of ds) l (all_spelt ds more.0)), more.1)
+    (and_true (is_change_spelt d) (is_guard_spelt d (Some (all_of ds))) one.0 (guard_spelt (all_of ds) l (all_spelt false ds more.0)), more.1)
 
 pub event_small : {n : ℕ} {from rest : List Word} {ps : List DraftPrim} → Event from ps rest → AreSmall n from → (are_some is_prim_spelt ps ≡ true) × AreSmall n rest
 event_small (last_prim {p = p} l e) k = let one = prim_small l k in (one_spelt is_prim_spelt p one.0, one.1)
@@ -229,7 +231,7 @@ event_small (prim_or {p = p} {ps = ps} l ls) k =
 -- ---- cells and values, to the end of the line
 
 cell_small : {heading : Heading} {n : ℕ} {from rest : List Word} {d : DraftCell} → Cell heading from d rest → AreSmall n from → (is_cell_spelt d ≡ true) × AreSmall n rest
-cell_small (condition {ds = ds} l) k = let one = cond_small l k in (any_spelt ds one.0, one.1)
+cell_small (condition {ds = ds} l) k = let one = cond_small l k in (any_spelt false ds one.0, one.1)
 cell_small (event l) k = event_small l k
 
 -- at most one more than there are bars

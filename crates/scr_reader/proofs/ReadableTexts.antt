@@ -178,7 +178,7 @@ form_placed (end e) = taken e
 form_placed (finish e) = taken e
 
 -- the tokens of a line are small words
-tokens_small : {line : List ℕ} {tokens : List Token} → IsLexed line tokens → is_line_within (words tokens) ≡ true → AreSmall 15 (words tokens)
+pub tokens_small : {line : List ℕ} {tokens : List Token} → IsLexed line tokens → is_line_within (words tokens) ≡ true → AreSmall 15 (words tokens)
 tokens_small {line} {tokens} l h = record {
   small = list_all-map is_word_sound (λ t. t.word) tokens ∙ words_sound l;
   few = leb-true _ _ (and_parts (is_nested_within 0 (words tokens) && is_negated_within 0 (words tokens)) (nat_le (count_by is_bar (words tokens)) 15) h).1;

@@ -13,7 +13,8 @@ use Rattle.scr_reader.specs.declared.place.LineFault.TheVariants as why
 use Rattle.scr_reader.specs.Words.{words}
 use Rattle.scr_reader.specs.Limits.{is_count_within}
 use Rattle.scr_reader.specs.Faults.{at_line}
-use Rattle.scr_reader.specs.Text.{Says, LineReads, blank, says, LineRefuses, Fails, Reads, Refused, here, start, LinesFail}
+use Rattle.scr_reader.specs.Refusals.{Fails}
+use Rattle.scr_reader.specs.Text.{Says, LineReads, blank, says, LineRefuses, Reads, Refused, here, start, LinesFail}
 
 pub blank_at : {position : Position} {line : List ℕ} {tokens : List Token} → IsLexed line tokens → tokens ≡ [] → LineReads position line None position
 blank_at {line = line} l e = blank (subst (λ tokens. IsLexed line tokens) e l)

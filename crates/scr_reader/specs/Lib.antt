@@ -7,5 +7,7 @@ pub mod Forms
 pub mod Limits
 pub mod Nesting
 pub mod Faults
+pub mod Refusals
 pub mod Text
 pub mod Readable
+pub mod Assertions

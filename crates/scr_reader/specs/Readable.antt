@@ -63,29 +63,30 @@ is_item_spelt primes item = is_narrow item.factor && is_operand_spelt primes ite
 abbrev pub is_side_spelt : Bool → DraftSide → Bool
 is_side_spelt primes side = are_some (is_item_spelt primes) side.items
 
-abbrev pub spelt_step : DraftCond-F Bool → Bool
-spelt_step (Alone l) = is_side_spelt false l
-spelt_step (Compare l relation m) = is_side_spelt false l && is_side_spelt false m
-spelt_step (Not t) = t
-spelt_step (And ts) = are_joined ts
-spelt_step (Or ts) = are_joined ts
+abbrev pub spelt_step : Bool → DraftCond-F Bool → Bool
+spelt_step primes (Alone l) = is_side_spelt primes l
+spelt_step primes (Compare l relation m) = is_side_spelt primes l && is_side_spelt primes m
+spelt_step primes (Not t) = t
+spelt_step primes (And ts) = are_joined ts
+spelt_step primes (Or ts) = are_joined ts
 
--- AND and OR join at least two conditions, and no name is primed
-abbrev pub is_cond_spelt : DraftCond → Bool
-is_cond_spelt d = fold-DraftCond Bool spelt_step d
+-- AND and OR join at least two conditions
+abbrev pub is_cond_spelt : Bool → DraftCond → Bool
+is_cond_spelt primes d = fold-DraftCond Bool (spelt_step primes) d
 
+-- no name is primed
 abbrev pub is_change_spelt : DraftChange → Bool
-is_change_spelt (change.Becomes d) = is_cond_spelt d
-is_change_spelt (change.Ceases d) = is_cond_spelt d
+is_change_spelt (change.Becomes d) = is_cond_spelt false d
+is_change_spelt (change.Ceases d) = is_cond_spelt false d
 is_change_spelt (change.Changes name) = is_name name
 is_change_spelt change.Never = true
 
 -- NEVER has no guard
 abbrev pub is_guard_spelt : DraftChange → Option DraftCond → Bool
 is_guard_spelt d None = true
-is_guard_spelt (change.Becomes d) (Some guard) = is_cond_spelt guard
-is_guard_spelt (change.Ceases d) (Some guard) = is_cond_spelt guard
-is_guard_spelt (change.Changes name) (Some guard) = is_cond_spelt guard
+is_guard_spelt (change.Becomes d) (Some guard) = is_cond_spelt false guard
+is_guard_spelt (change.Ceases d) (Some guard) = is_cond_spelt false guard
+is_guard_spelt (change.Changes name) (Some guard) = is_cond_spelt false guard
 is_guard_spelt change.Never (Some guard) = false
 
 abbrev pub is_prim_spelt : DraftPrim → Bool
@@ -95,7 +96,7 @@ abbrev pub is_event_spelt : DraftEvent → Bool
 is_event_spelt e = are_some is_prim_spelt e.prims
 
 abbrev pub is_cell_spelt : DraftCell → Bool
-is_cell_spelt (cell.Cond d) = is_cond_spelt d
+is_cell_spelt (cell.Cond d) = is_cond_spelt false d
 is_cell_spelt (cell.Event e) = is_event_spelt e
 
 -- ---- statements

@@ -1,11 +1,10 @@
 -- A text: its lines one after another, each with a form at its place and within the limits, or the first line that is
 -- refused.
 use Rattle.std.specs.Prelude.{◌≡◌, ◌≢◌, ◌⊎◌, ℕ, ◌+◌, ◌<◌, ◌≤◌, true, false, List, [], ◌∷◌, ◌++◌, length, Option, Some, None}
-use Rattle.scr_text.specs.declared.fault.LexFault.TheVariants as f
 use Rattle.scr_text.specs.declared.word.Token.{Token}
 use Rattle.scr_text.specs.declared.word.Word.{Word}
 use Rattle.scr_text.specs.Lines.{lines}
-use Rattle.scr_text.specs.Tokens.{IsLexed, Refuses}
+use Rattle.scr_text.specs.Tokens.{IsLexed}
 use Rattle.scr_reader.specs.declared.draft.Statement.{Statement}
 use Rattle.scr_reader.specs.declared.draft.Numbered.{Numbered}
 use Rattle.scr_reader.specs.declared.place.Place.{Place}
@@ -15,10 +14,9 @@ use Rattle.scr_reader.specs.declared.place.TextKind.{TextKind}
 use Rattle.scr_reader.specs.declared.place.TextKind.TheVariants as k
 use Rattle.scr_reader.specs.declared.place.TextFault.{TextFault}
 use Rattle.scr_reader.specs.declared.place.TextFault.TheVariants as fault
-use Rattle.scr_reader.specs.declared.place.LineFault.{LineFault}
-use Rattle.scr_reader.specs.declared.place.LineFault.TheVariants as why
 use Rattle.scr_reader.specs.declared.text.TheConstants.{TEXT_LIMIT}
 use Rattle.scr_reader.specs.Words.{words}
+use Rattle.scr_reader.specs.Refusals.{WordsRefusedBy, TokensRefusedBy, LineRefusedBy}
 use Rattle.scr_reader.specs.Forms.{Form, NoForm}
 use Rattle.scr_reader.specs.Limits.{is_line_within, is_statement_within, counted, is_count_within, no_counts}
 
@@ -45,26 +43,15 @@ PassesLimit position from = (statement : Statement) × (next : Place) × Form po
 
 -- the first step that refuses the words: what they open, no form, a statement or a count too large
 abbrev pub WordsRefuse : Position → List Word → TextKind → Type 0
-WordsRefuse position from k.Byte = ⊥
-WordsRefuse position from k.Syntax = (is_line_within from ≡ true) × NoForm position.place from
-WordsRefuse position from k.Limit = (is_line_within from ≡ false) ⊎ ((is_line_within from ≡ true) × PassesLimit position from)
-WordsRefuse position from k.End = ⊥
+WordsRefuse position from kind = WordsRefusedBy (NoForm position.place from) (PassesLimit position from) from kind
 
 -- the line has tokens, and these are refused
 abbrev pub TokensRefuse : Position → List ℕ → TextKind → Type 0
-TokensRefuse position line kind = (tokens : List Token) × IsLexed line tokens × (0 < length tokens) × WordsRefuse position (words tokens) kind
+TokensRefuse position line kind = TokensRefusedBy (WordsRefuse position) line kind
 
 -- the first step that refuses the line: its length, a byte, a piece that is no token, a token too large, or its words
 abbrev pub LineRefuses : Position → List ℕ → TextKind → Type 0
-LineRefuses position line k.Byte = Refuses line f.Byte
-LineRefuses position line k.Syntax = Refuses line f.Syntax ⊎ TokensRefuse position line k.Syntax
-LineRefuses position line k.Limit = Refuses line f.Limit ⊎ TokensRefuse position line k.Limit
-LineRefuses position line k.End = ⊥
-
--- a fault of this kind, where the line or its words are refused so; memory may run out anywhere
-abbrev pub Fails : (TextKind → Type 0) → LineFault → Type 0
-Fails refuses why.NoMemory = Unit {0}
-Fails refuses (why.Refused kind) = refuses kind
+LineRefuses position line kind = LineRefusedBy (WordsRefuse position) line kind
 
 -- ---- the lines
 

@@ -111,3 +111,11 @@ pub struct Numbered {
 pub struct Draft {
     pub statements: Items<Numbered>,
 }
+
+/// An assertion with the number of its line, from 1.
+#[derive(Debug, Drop)]
+pub struct DraftAssertion {
+    pub line: u32,
+    pub name: Name,
+    pub cond: DraftCond,
+}

@@ -1,6 +1,8 @@
-//! Reads the text of a specification: from bytes to statements with their lines.
+//! Reads the text of a specification, and a text of assertions: from bytes to statements with their
+//! lines.
 #![tactic(auto)]
 
+mod assertions;
 mod cell;
 mod cond;
 mod declaration;
@@ -17,9 +19,12 @@ mod step;
 mod table;
 mod text;
 
+pub use assertions::{
+    ASSERTION_LIMIT, asserts_readable, one_outcome_of_assertions, read_assertions,
+};
 pub use draft::{
-    Draft, DraftCell, DraftChange, DraftCond, DraftEvent, DraftItem, DraftKind, DraftOperand,
-    DraftPrim, DraftSide, DraftValue, Numbered, Statement,
+    Draft, DraftAssertion, DraftCell, DraftChange, DraftCond, DraftEvent, DraftItem, DraftKind,
+    DraftOperand, DraftPrim, DraftSide, DraftValue, Numbered, Statement,
 };
 pub use place::{Counts, Place, Position, TextFault, TextKind};
 pub use text::{TEXT_LIMIT, one_outcome, read, reads_readable};

@@ -106,9 +106,10 @@ fn are_sides_within(sides: &[DraftSide]) -> bool
     sides.iter().all(is_side_within)
 }
 
+/// Whether each side of a condition is within its limits.
 #[cycle(within)]
 #[tactic(auto, using(crate::proofs::LimitLaws::cond_laws, crate::specs::declared::draft::DraftCond::TheViews::the_lemmas))]
-fn is_cond_within(cond: &DraftCond) -> bool
+pub(crate) fn is_cond_within(cond: &DraftCond) -> bool
     ensures { result ≡ spec.is_cond_within cond.now }
 {
     match cond {

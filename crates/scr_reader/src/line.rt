@@ -3,7 +3,8 @@
 ghost use Rattle.std.specs.Prelude.{◌≡◌, true, MatchResult};
 ghost use Rattle.scr_reader.specs.Words.{words};
 ghost use Rattle.scr_reader.specs.Limits as limits;
-ghost use Rattle.scr_reader.specs.Text.{Says, LineReads, WordsRefuse, LineRefuses, Fails};
+ghost use Rattle.scr_reader.specs.Refusals.{Fails};
+ghost use Rattle.scr_reader.specs.Text.{Says, LineReads, WordsRefuse, LineRefuses};
 
 use crate::form::read_form;
 use crate::limit::{counted, is_count_within, is_line_within, is_statement_within};

@@ -30,7 +30,8 @@ fn keep(
     }
 }
 
-fn at_line(line: u32, fault: LineFault) -> TextFault
+/// The fault of a line, at that line.
+pub(crate) fn at_line(line: u32, fault: LineFault) -> TextFault
     ensures { result ≡ faults.at_line line fault }
 {
     match fault {

@@ -1,0 +1,4 @@
+mod PrimeLaws
+mod Steps
+pub mod Outcome
+pub mod Readings

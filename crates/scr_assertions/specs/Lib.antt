@@ -1,0 +1,3 @@
+pub mod Primes
+pub mod Resolution
+pub mod Texts
