@@ -1,0 +1,10 @@
+pub mod Lists
+pub mod Pairs
+pub mod Tells
+pub mod Measures
+pub mod InSetting
+pub mod Judging
+pub mod Granted
+pub mod Sound
+pub mod Once
+pub mod Verdicts
