@@ -1,13 +1,16 @@
 -- Tallies count what they say.
-use Rattle.std.proofs.Common.{◌≡◌, ℕ, ◌+◌, ◌<◌, ◌≤◌, ◌^◌, Bool, true, false, List, [], ◌∷◌, ◌++◌, length, map, refl, sym, ap, ap₂, subst, ◌∙◌, arith}
-use Rattle.std.specs.List.{AllByRecursion}
+use Rattle.std.proofs.Common.{◌≡◌, ℕ, ◌+◌, ◌<◌, ◌≤◌, ◌^◌, Bool, true, false, List, [], ◌∷◌, ◌++◌, map, refl, sym, ap, ap₂, ◌∙◌, arith}
+use Rattle.std.specs.Prelude.{if◌then◌else◌}
+use Rattle.std.specs.List.{AllByRecursion, count_by}
 use Rattle.std.proofs.lemmas.List.{length-append}
+use Rattle.std.proofs.lemmas.List.Sums.{sum_by-append}
+use Rattle.std.proofs.Math.Logic.{∥∥₁_elim, ∥∥₁_prop}
 use Rattle.scr_spec.specs.Data.{Data}
 use Rattle.scr_spec.specs.Meaning.{Codes}
 use Rattle.scr_cover.specs.declared.count.Count.{Count}
-use Rattle.scr_cover.specs.Cells.{CellPlace, cells_of, held, once_if, times_held}
+use Rattle.scr_cover.specs.Cells.{CellPlace, cells_of, held, steps_of, times_held}
 use Rattle.scr_cover.specs.Counts.{counted, place_of, raised}
-use Rattle.scr_cover.specs.Tallies.{last_of, IsTally}
+use Rattle.scr_cover.specs.Tallies.{last_of, IsOfStates}
 use Rattle.scr_cover.specs.Laws.{OneCover}
 
 -- ---- a state more
@@ -16,10 +19,19 @@ last_push : (first : Codes) (states : List Codes) (new : Codes) → last_of firs
 last_push first [] new = refl
 last_push first (s ∷ states) new = last_push s states new
 
+steps_push : (first : Codes) (states : List Codes) (new : Codes) → steps_of first (states ++ new ∷ []) ≡ steps_of first states ++ (last_of first states, new) ∷ []
+steps_push first [] new = refl
+steps_push first (s ∷ states) new = ap (λ (steps : List (Codes × Codes)). (first, s) ∷ steps) (steps_push s states new)
+
 times_push : (spec : Data) (cell : CellPlace) (first : Codes) (states : List Codes) (new : Codes)
-    → times_held spec cell first (states ++ new ∷ []) ≡ times_held spec cell first states + once_if (held spec cell (last_of first states) new)
-times_push spec cell first [] new = omega arith
-times_push spec cell first (s ∷ states) new = let rest = times_push spec cell s states new in omega (arith, rest)
+    → times_held spec cell first (states ++ new ∷ []) ≡ times_held spec cell first states + (if held spec cell (last_of first states) new then 1 else 0)
+times_push spec cell first states new =
+    let test : Codes × Codes → Bool = λ step. held spec cell step.0 step.1 in
+    let before = times_held spec cell first states in
+    let last : ℕ = if held spec cell (last_of first states) new then 1 else 0 in
+    let alone : before + (0 + last) ≡ before + last = omega arith in
+    ap (λ (steps : List (Codes × Codes)). count_by test steps) (steps_push first states new)
+    ∙ sum_by-append (λ step. if test step then 1 else 0) (steps_of first states) ((last_of first states, new) ∷ []) ∙ alone
 
 all_push : (spec : Data) (first : Codes) (states : List Codes) (new : Codes) (cells : List CellPlace)
     → map (raised spec (last_of first states) new) (map (λ cell. counted cell (times_held spec cell first states)) cells) ≡ map (λ cell. counted cell (times_held spec cell first (states ++ new ∷ []))) cells
@@ -36,6 +48,15 @@ one_cover = record {
   };
 }
 
+-- ---- what a tally knows
+
+pub of_none : (spec : Data) (first : Codes) → ∥ IsOfStates spec (map (λ cell. counted cell 0) (cells_of spec)) first 0 ∥₁
+of_none spec first = ∣ record { first = first; states = []; tally = record { each = refl; present = refl; many = refl } } ∣₁
+
+pub of_noted : (spec : Data) (counts : List Count) (at : Codes) (notes : ℕ) (next : Codes) → ∥ IsOfStates spec counts at notes ∥₁ → ∥ IsOfStates spec (map (raised spec at next) counts) next (notes + 1) ∥₁
+of_noted spec counts at notes next r =
+    ∥∥₁_elim r ∥∥₁_prop (λ h. ∣ record { first = h.first; states = h.states ++ next ∷ []; tally = one_cover.noted spec h.first h.states counts at notes next h.tally } ∣₁)
+
 -- ---- counts are small
 
 module _ (k : ℕ) where
@@ -43,7 +64,7 @@ module _ (k : ℕ) where
   all_below [] small h = tt
   all_below (n ∷ counts) small h = let first = h.0 in (omega (arith, first, small), all_below counts small h.1)
 
-  once_small : (b : Bool) → once_if b ≤ 1
+  once_small : (b : Bool) → (if b then 1 else 0) ≤ 1
   once_small true = omega arith
   once_small false = omega arith
 

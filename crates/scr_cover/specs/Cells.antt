@@ -1,6 +1,6 @@
 -- The cells of a specification, and at how many inputs of a run each one held.
-use Rattle.std.specs.Prelude.{ℕ, ◌+◌, ◌-◌, Bool, true, false, List, [], ◌∷◌, length, map, slice_get}
-use Rattle.std.specs.List.{flat_map, range_with_len}
+use Rattle.std.specs.Prelude.{ℕ, ◌+◌, ◌-◌, Bool, false, List, [], ◌∷◌, length, map, slice_get}
+use Rattle.std.specs.List.{flat_map, range_with_len, zip, count_by}
 use Rattle.std.specs.Option.{option_map_or}
 use Rattle.scr_spec.specs.Data.{Data}
 use Rattle.scr_spec.specs.declared.table.Table.{Table}
@@ -37,11 +37,10 @@ cells_of spec = flat_map (numbered_cells spec) (range_with_len 0 (length spec.ta
 abbrev pub held : Data → CellPlace → Codes → Codes → Bool
 held spec cell old new = option_map_or (λ table. holds_in spec table (cell.row - 1) (cell.column - 1) old new) (slice_get spec.tables cell.table) false
 
-abbrev pub once_if : Bool → ℕ
-once_if true = 1
-once_if false = 0
+-- the steps of a run with this first state and these behind it, one for each input: the state before it and the one after it
+abbrev pub steps_of : Codes → List Codes → List (Codes × Codes)
+steps_of first states = zip (first ∷ states) states
 
--- at how many of the states, each with the one before it, the cell held; the first state alone counts nothing
+-- at how many of these steps the cell held; the first state alone is none
 abbrev pub times_held : Data → CellPlace → Codes → List Codes → ℕ
-times_held spec cell first [] = 0
-times_held spec cell first (new ∷ states) = once_if (held spec cell first new) + times_held spec cell new states
+times_held spec cell first states = count_by (λ step. held spec cell step.0 step.1) (steps_of first states)

@@ -1,11 +1,11 @@
 //! A cell with the number of inputs at which it held.
-ghost use Rattle.std.specs.Prelude.{◌≡◌, ◌<◌, ◌^◌, IsTrue, map};
+ghost use Rattle.std.specs.Prelude.{◌≡◌, ◌+◌, ◌<◌, ◌^◌, ◌==◌, IsTrue, map};
 ghost use Rattle.std.specs.List.{AllByRecursion};
 ghost use Rattle.scr_spec.specs.Shown.{data_of};
 ghost use Rattle.scr_spec.specs.Domains.{IsTyped};
 ghost use Rattle.scr_spec.specs.Cells.{holds_in, has_cell, is_table_over};
 ghost use Rattle.scr_cover.specs.Cells.{held};
-ghost use Rattle.scr_cover.specs.Counts.{place_of, raised};
+ghost use Rattle.scr_cover.specs.Counts.{place_of, cell_at, is_of, raised};
 
 use scr_eval::cell_holds;
 use scr_spec::{Spec, State, Table};
@@ -18,6 +18,19 @@ pub struct Count {
     pub row: usize,
     pub column: usize,
     pub times: u64,
+}
+
+fn is_next(number: usize, place: usize) -> bool
+    ensures { result ≡ (number == place + 1) }
+{
+    number.checked_sub(1) == Some(place)
+}
+
+/// Whether it is the count of the cell with these numbers, each from 0.
+pub(crate) fn is_of(count: &Count, table: usize, row: usize, column: usize) -> bool
+    ensures { result ≡ is_of (cell_at table row column) count.now }
+{
+    count.table == table && is_next(count.row, row) && is_next(count.column, column)
 }
 
 fn is_there(table: &Table, row: usize, column: usize) -> bool

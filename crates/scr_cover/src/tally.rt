@@ -1,14 +1,15 @@
 //! The tally of a run.
 ghost use Rattle.std.specs.Prelude.{◌≡◌, ◌≤◌, ◌<◌, ◌+◌, ◌^◌, ◌++◌, [], map, length, IfOk, OnOk};
+ghost use Rattle.std.specs.Option.{option_copied};
 ghost use Rattle.std.proofs.Props.{props};
-ghost use Rattle.std.specs.List.{AllByRecursion};
+ghost use Rattle.std.specs.List.{AllByRecursion, find};
 ghost use Rattle.scr_spec.specs.Shown.{data_of};
 ghost use Rattle.scr_spec.specs.Domains.{IsTyped};
 ghost use Rattle.scr_cover.specs.Cells.{row_cells, table_cells, cells_of};
-ghost use Rattle.scr_cover.specs.Counts.{counted, raised};
-ghost use Rattle.scr_cover.specs.Tallies.{IsTally};
+ghost use Rattle.scr_cover.specs.Counts.{cell_at, is_of, counted, raised};
+ghost use Rattle.scr_cover.specs.Tallies.{IsTally, IsOfStates, TellsHeld};
 
-use crate::count::{Count, raise_all};
+use crate::count::{Count, is_of, raise_all};
 use scr_depend::Checked;
 use scr_next::copy_codes;
 use scr_spec::{Spec, State, Table};
@@ -17,7 +18,7 @@ use sqlite_items::Items;
 use std::alloc::Global;
 
 /// For each cell of a specification at how many inputs it held, from a first state on. The state after
-/// the last input is kept.
+/// the last input is kept. Its type keeps that these are the numbers of some states.
 #[derive(Debug, Drop)]
 pub struct Tally<'a> {
     pub checked: &'a Checked,
@@ -27,6 +28,8 @@ pub struct Tally<'a> {
     pub counts: Items<Count>,
     /// How many inputs there were.
     pub notes: u64,
+    // behind `∥ ∥₁`, since the type knows that there are such states, and not which
+    pub ghost of_states: { ∥ IsOfStates (data_of checked.now.spec) counts at.codes notes ∥₁ },
     pub ghost typed: { IsTyped (data_of checked.now.spec) at.codes },
     pub ghost below: { AllByRecursion (λ n. n.times ≤ notes) counts } by { Prim.hlevel props },
 }
@@ -84,6 +87,15 @@ fn copy_of(alloc: Global, state: &State) -> Result<State, NoMemory>
     Ok(State { codes })
 }
 
+fn find_count(counts: &Items<Count>, table: usize, row: usize, column: usize) -> Option<&Count>
+    ensures { option_copied result ≡ find (is_of (cell_at table row column)) counts.now }
+{
+    counts
+        .as_slice()
+        .iter()
+        .find(|count| is_of(count, table, row, column))
+}
+
 impl<'a> Tally<'a> {
     /// A tally from the state on, in which no cell has been counted. This takes all the memory that it needs.
     pub fn new(alloc: Global, checked: &'a Checked, first: &State) -> Result<Tally<'a>, NoMemory>
@@ -114,5 +126,15 @@ impl<'a> Tally<'a> {
         raise_all(self.checked.spec(), &mut self.counts, &self.at, next);
         copy_codes(next, &mut self.at);
         self.notes += 1;
+    }
+
+    /// At how many inputs the cell held. The three numbers count from 0. 0 where there is no such cell.
+    pub fn count(&self, table: usize, row: usize, column: usize) -> u64
+        ensures times { TellsHeld (data_of self.now.checked.now.spec) (cell_at table row column) self.now.counts self.now.at.codes self.now.notes result }
+    {
+        match find_count(&self.counts, table, row, column) {
+            Some(count) => count.times,
+            None => 0,
+        }
     }
 }

@@ -20,6 +20,7 @@ use Rattle.scr_coverage.specs.Covers.{Covers, CoversTally, CoversFile, CoverAnsw
 use Rattle.scr_coverage.specs.Laws.{OneCoverage}
 use Rattle.scr_coverage.proofs.Existence.{some_answer}
 use Rattle.scr_coverage.proofs.Once.{once}
+use Rattle.scr_coverage.proofs.Run.{run}
 
 -- ---- by the script
 
@@ -63,6 +64,7 @@ one_coverage = record {
   file_some = file_some;
   one = λ limit held script x y i j. both_once CoversFile limit held script x y i j (λ spec order. file_once spec order script);
   never_none = some_answers;
+  run = run;
 }
 
 -- ---- of the command

@@ -1,5 +1,6 @@
 pub mod Once
 pub mod Steps
 pub mod Existence
+pub mod Run
 pub mod Files
 pub mod Same

@@ -1,13 +1,16 @@
 -- The law of coverage.
-use Rattle.std.specs.Prelude.{◌≡◌, ℕ, List, [], Option}
+use Rattle.std.specs.Prelude.{◌≡◌, ℕ, List, [], Option, Some}
 use Rattle.scr_spec.specs.Data.{Data}
 use Rattle.scr_spec.specs.Meaning.{Codes}
 use Rattle.scr_depend.specs.declared.order.Order.{Order}
 use Rattle.scr_depend.specs.Passes.{PassesChecks}
 use Rattle.scr_next.specs.Runs.{IsConsistent}
 use Rattle.scr_job.specs.declared.status.Status.{Status}
+use Rattle.scr_job.specs.declared.status.Status.TheVariants.{Done}
 use Rattle.scr_job.specs.Ends.{IsFront, HasFront}
+use Rattle.scr_checking.specs.Checking.{Passes}
 use Rattle.scr_coverage.specs.Covers.{Covers, CoversFile, CoverAnswers}
+use Rattle.scr_coverage.specs.Tells.{CountsRun}
 
 pub record OneCoverage : Type 0 where
   -- from a consistent state on, a rest of a script has one answer
@@ -20,3 +23,5 @@ pub record OneCoverage : Type 0 where
   -- files have one answer of `cover`, and never none
   pub one : (limit : ℕ) (held script : Option (List ℕ)) (x y : List ℕ) (i j : Status) → CoverAnswers limit held script x i → CoverAnswers limit held script y j → (x ≡ y) × (i ≡ j)
   pub never_none : (limit : ℕ) (held script : Option (List ℕ)) → IsFront (CoverAnswers limit held script) []
+  -- with `Done` the text passes its checks, and what is written counts for each cell the inputs of the script's run at which it held
+  pub run : (limit : ℕ) (text script bytes : List ℕ) → CoverAnswers limit (Some text) (Some script) bytes Done → (spec : Data) × (order : Order) × Passes limit text spec order × CountsRun spec script bytes

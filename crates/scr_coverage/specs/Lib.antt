@@ -1,3 +1,4 @@
 pub mod Text
 pub mod Covers
+pub mod Tells
 pub mod Laws

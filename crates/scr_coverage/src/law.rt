@@ -2,7 +2,7 @@
 ghost use Rattle.scr_coverage.specs.Laws.{OneCoverage};
 
 /// A specification that passed its checks has one answer to a script, and files have one answer of `cover`,
-/// and never none.
+/// and never none. One with Done counts the inputs of the script's run at which each cell held.
 pub fn one_coverage()
     ensures { OneCoverage }
 {}

@@ -1,41 +1,21 @@
 -- Histories are replays.
-use Rattle.std.proofs.Common.{◌≡◌, ℕ, suc, ◌+◌, ◌-◌, ◌<◌, ◌≤◌, Bool, true, false, List, [], ◌∷◌, ◌++◌, length, take, drop, refl, sym, ap, subst, ◌∙◌, arith}
-use Rattle.std.specs.Prelude.{Option, Some, None, Ok, Err, min, if◌then◌else◌}
+use Rattle.std.proofs.Common.{◌≡◌, ℕ, ◌+◌, ◌-◌, ◌≤◌, List, [], ◌∷◌, ◌++◌, length, take, refl, sym, ap, subst, ◌∙◌, arith}
+use Rattle.std.specs.Prelude.{Some, min}
 use Rattle.std.proofs.lemmas.List.{append_assoc, append-nil, length-append}
-use Rattle.scr_text.specs.Tokens.{body}
 use Rattle.scr_spec.specs.Data.{Data}
 use Rattle.scr_spec.specs.declared.state.Input.{Input}
 use Rattle.scr_spec.specs.Meaning.{Codes}
-use Rattle.scr_next.specs.Runs.{EndsIn}
-use Rattle.circular_buffer.specs.Buffer.{keep_last}
-use Rattle.scr_simulator.specs.declared.fault.ScriptFault.TheVariants as fault
-use Rattle.scr_script.specs.Words.{is_readable, words_of}
-use Rattle.scr_simulator.specs.Script.{read_words, read_line}
-use Rattle.scr_history.specs.StepBack.{words_back, count_back}
+use Rattle.scr_history.specs.StepBack.{count_back}
 use Rattle.scr_history.specs.declared.fault.Replayed.{Replayed}
 use Rattle.scr_history.specs.declared.fault.Replayed.TheVariants.{Blank, Forward, Back}
 use Rattle.scr_history.specs.Kept.{Kept, kept, states_of, Shows}
-use Rattle.scr_history.specs.Replays.{GoesOn, GoesBack, TakesInput, TakesBack, Passes, Replays}
+use Rattle.scr_history.specs.Replays.{GoesOn, GoesBack, Replays}
 use Rattle.scr_history.specs.Holds.{Holds, none, passed, added, taken}
-use Rattle.scr_history.specs.Laws.{Took, begun, fed, IsReplay, Further, here, more, OneReplay}
+use Rattle.scr_history.specs.Laws.{Took, begun, fed, IsReplay, Further, here, more, OneHistory}
 use Rattle.scr_history.proofs.Lists.{keep_split, length-keep, length-push, same_front, same_last}
+use Rattle.scr_history.proofs.Once.{holds_once}
+use Rattle.scr_history.proofs.Plain.{plain}
 use Rattle.scr_history.proofs.Cuts.{shows_ends, shows_first, shows_on, shows_back}
-
--- ---- a BACK line has two words
-
-words_plain : (spec : Data) (at : Codes) (words : List (List ℕ)) (count : ℕ) → words_back words ≡ Some count → read_words spec at words ≡ Err fault.Syntax
-words_plain spec at [] count h = cc
-words_plain spec at (a ∷ []) count h = refl
-words_plain spec at (a ∷ b ∷ []) count h = refl
-words_plain spec at (a ∷ b ∷ c ∷ words) count h = cc
-
-pub plain : (spec : Data) (at : Codes) (line : List ℕ) (count : ℕ) → count_back line ≡ Some count → read_line spec at line ≡ Err fault.Syntax
-plain spec at line count h =
-    let words = words_of (body line) in
-    elim (is_readable line) as (λ t. (if t then words_back words else None) ≡ Some count → (if t then read_words spec at words else Err fault.Syntax) ≡ Err fault.Syntax) [
-      | true ↦ λ k. words_plain spec at words count k
-      | false ↦ λ k. refl
-    ] h
 
 -- ---- line by line
 
@@ -102,5 +82,10 @@ back spec count old now new f g =
     let front : r.front ++ states_of new ≡ states_of old = same_front (r.front ++ states_of new) (states_of old) g.taken r.last whole (g.many ∙ sym r.many) in
     (same_last (r.front ++ new.earlier) old.earlier new.at old.at (append_assoc r.front new.earlier (new.at ∷ []) ∙ front), omega (arith, g.number, r.number))
 
-pub one_replay : OneReplay
-one_replay = record { replay = replay; plain = plain; back = back }
+pub one_history : OneHistory
+one_history = record {
+  replay = replay;
+  once = λ spec order lines a b d e k. holds_once spec order k lines lines refl a b d e;
+  plain = plain;
+  back = back;
+}

@@ -1,8 +1,10 @@
--- Laws of replays.
+-- Laws of histories.
 use Rattle.std.specs.Prelude.{◌≡◌, ℕ, suc, List, [], ◌∷◌, ◌++◌, length, Some, Err}
 use Rattle.scr_spec.specs.Data.{Data}
 use Rattle.scr_spec.specs.declared.state.Input.{Input}
 use Rattle.scr_spec.specs.Meaning.{Codes}
+use Rattle.scr_depend.specs.declared.order.Order.{Order}
+use Rattle.scr_depend.specs.Passes.{PassesChecks}
 use Rattle.scr_next.specs.Runs.{IsInitial, EndsIn}
 use Rattle.scr_simulator.specs.declared.fault.ScriptFault.TheVariants as fault
 use Rattle.scr_simulator.specs.Script.{read_line}
@@ -29,9 +31,11 @@ pub data Further (spec : Data) : ℕ → Kept → Kept → Type 0 where
   here : {k : Kept} → Further spec 0 k k
   more : {count : ℕ} {old now new : Kept} (input : Input) → Further spec count old now → GoesOn spec now input new → Further spec (suc count) old new
 
-pub record OneReplay : Type 0 where
+pub record OneHistory : Type 0 where
   -- what a history keeps is what the definition holds
   pub replay : (spec : Data) (lines : List (List ℕ)) (k : Kept) → Took spec lines k → IsReplay spec lines k
+  -- some lines leave one list of inputs held, at one depth
+  pub once : (spec : Data) (order : Order) (lines : List (List ℕ)) (a b : List Input) (d e : ℕ) → PassesChecks spec order → Holds spec lines a d → Holds spec lines b e → (a ≡ b) × (d ≡ e)
   -- a BACK line is no line of a plain script
   pub plain : (spec : Data) (at : Codes) (line : List ℕ) (count : ℕ) → count_back line ≡ Some count → read_line spec at line ≡ Err fault.Syntax
   -- as many steps back as there were further inputs give the state and the number that were there

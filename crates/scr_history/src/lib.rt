@@ -9,4 +9,4 @@ mod law;
 pub use back::count_back;
 pub use fault::{ReplayFault, Replayed, kind_of};
 pub use history::History;
-pub use law::one_replay;
+pub use law::one_history;

@@ -18,6 +18,7 @@ use Rattle.scr_history.proofs.Cuts.{shows_first, of_first}
 use Rattle.scr_replay.specs.Replays.{Replays, ReplaysKept, ReplaysFile, ReplayAnswers}
 use Rattle.scr_replay.specs.Laws.{OneReplay}
 use Rattle.scr_replay.proofs.Existence.{some_answer}
+use Rattle.scr_replay.proofs.Held.{held}
 use Rattle.scr_replay.proofs.Once.{once}
 
 -- ---- by the script
@@ -72,6 +73,7 @@ one_replay = record {
   file_some = file_some;
   one = λ limit held script x y i j. both_once ReplaysFile limit held script x y i j (λ spec order. file_once spec order script);
   never_none = some_answers;
+  held = held;
 }
 
 -- ---- of the command

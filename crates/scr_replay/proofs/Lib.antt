@@ -1,4 +1,5 @@
 pub mod Once
 pub mod Steps
 pub mod Existence
+pub mod Held
 pub mod Files

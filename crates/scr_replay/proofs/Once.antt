@@ -15,7 +15,8 @@ use Rattle.scr_job.specs.declared.status.Status.{Status}
 use Rattle.scr_job.specs.Session.{behind}
 use Rattle.scr_job.specs.Closing.{closing_text, closing_status}
 use Rattle.scr_report.specs.Runs.{state_text}
-use Rattle.scr_history.proofs.Lists.{same_front, same_last}
+use Rattle.scr_history.proofs.Lists.{same_front}
+use Rattle.scr_history.proofs.Once.{one_end}
 use Rattle.scr_replay.specs.Turns.{Turn, stay, add, take, refuse}
 use Rattle.scr_replay.specs.Replays.{Replays, closed, faulty, passed, added, taken}
 
@@ -47,12 +48,6 @@ one_input t a b g h = cc
 
 one_count : (t : Turn) (a b : ℕ) → t ≡ take a → t ≡ take b → a ≡ b
 one_count t a b g h = cc
-
--- ---- a run ends in one state
-
-one_end : (spec : Data) (order : Order) (inputs : List Input) (a b : Codes) → PassesChecks spec order → EndsIn spec inputs a → EndsIn spec inputs b → a ≡ b
-one_end spec order inputs a b k x y =
-    same_last x.before y.before a b (one_run.one_run spec order inputs (x.before ++ a ∷ []) (y.before ++ b ∷ []) k x.run y.run)
 
 -- ---- the answer
 

@@ -23,7 +23,8 @@ use Rattle.scr_history.specs.Faults.{kind_of}
 use Rattle.scr_history.specs.Kept.{Kept, Shows}
 use Rattle.scr_history.specs.StepBack.{count_back}
 use Rattle.scr_history.specs.Replays.{GoesBack, TakesInput, TakesBack, Passes, HasReplayFault, IsTooFar, HasFault}
-use Rattle.scr_history.proofs.Lines.{plain, on_depth, back_depth}
+use Rattle.scr_history.proofs.Lines.{on_depth, back_depth}
+use Rattle.scr_history.proofs.Plain.{plain}
 use Rattle.scr_history.proofs.Lists.{length-push}
 use Rattle.scr_history.proofs.Cuts.{shows_ends, shows_on, shows_back}
 use Rattle.scr_replay.specs.Turns.{Turn, stay, add, take, refuse, set_turn, turn_by, turn_of}

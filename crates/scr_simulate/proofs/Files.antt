@@ -17,6 +17,7 @@ use Rattle.scr_simulate.specs.Simulates.{Simulates, SimulatesFile, SimulateAnswe
 use Rattle.scr_simulate.specs.Laws.{OneSimulation}
 use Rattle.scr_simulate.proofs.Existence.{some_answer}
 use Rattle.scr_simulate.proofs.Once.{once}
+use Rattle.scr_simulate.proofs.Run.{run}
 
 -- ---- by the script
 
@@ -57,6 +58,7 @@ one_simulation = record {
   file_some = file_some;
   one = λ limit held script x y i j. both_once SimulatesFile limit held script x y i j (λ spec order. file_once spec order script);
   never_none = some_answers;
+  run = run;
 }
 
 -- ---- of the command

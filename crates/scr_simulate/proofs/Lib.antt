@@ -1,4 +1,5 @@
 pub mod Existence
 pub mod Once
 pub mod Steps
+pub mod Run
 pub mod Files

@@ -1,14 +1,17 @@
 -- The law of simulations.
-use Rattle.std.specs.Prelude.{◌≡◌, ℕ, List, [], Option}
+use Rattle.std.specs.Prelude.{◌≡◌, ℕ, List, [], Option, Some}
 use Rattle.scr_spec.specs.Data.{Data}
 use Rattle.scr_spec.specs.Meaning.{Codes}
 use Rattle.scr_depend.specs.declared.order.Order.{Order}
 use Rattle.scr_next.specs.Runs.{IsConsistent}
 use Rattle.scr_depend.specs.Passes.{PassesChecks}
 use Rattle.scr_job.specs.declared.status.Status.{Status}
+use Rattle.scr_job.specs.declared.status.Status.TheVariants.{Done}
 use Rattle.scr_job.specs.Ends.{IsFront, HasFront}
 use Rattle.scr_job.specs.Session.{IsAnswered}
+use Rattle.scr_checking.specs.Checking.{Passes}
 use Rattle.scr_simulate.specs.Simulates.{Simulates, SimulatesFile, SimulateAnswers}
+use Rattle.scr_simulate.specs.Tells.{TellsRun}
 
 pub record OneSimulation : Type 0 where
   -- from a consistent state on, a rest of a script has one answer
@@ -22,3 +25,5 @@ pub record OneSimulation : Type 0 where
   -- files have one answer of `simulate`, and never none
   pub one : (limit : ℕ) (held script : Option (List ℕ)) (x y : List ℕ) (i j : Status) → SimulateAnswers limit held script x i → SimulateAnswers limit held script y j → (x ≡ y) × (i ≡ j)
   pub never_none : (limit : ℕ) (held script : Option (List ℕ)) → IsFront (SimulateAnswers limit held script) []
+  -- with `Done` the text passes its checks, and what is written are the states of the run of the script's inputs
+  pub run : (limit : ℕ) (text script bytes : List ℕ) → SimulateAnswers limit (Some text) (Some script) bytes Done → (spec : Data) × (order : Order) × Passes limit text spec order × TellsRun spec script bytes

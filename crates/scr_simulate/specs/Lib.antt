@@ -1,2 +1,3 @@
 pub mod Simulates
+pub mod Tells
 pub mod Laws

@@ -2,7 +2,7 @@
 ghost use Rattle.scr_simulate.specs.Laws.{OneSimulation};
 
 /// A specification that passed its checks has one answer to a script, and files have one answer of
-/// `simulate`, and never none.
+/// `simulate`, and never none. One with Done tells the states of the run of the script's inputs.
 pub fn one_simulation()
     ensures { OneSimulation }
 {}

@@ -5,12 +5,14 @@ use Rattle.scr_spec.specs.Data.{Data}
 use Rattle.scr_spec.specs.declared.state.Input.{Input}
 use Rattle.scr_spec.specs.Meaning.{Codes}
 use Rattle.scr_depend.specs.declared.order.Order.{Order}
-use Rattle.scr_next.specs.Runs.{IsConsistent, IsStep, Leads}
+use Rattle.scr_next.specs.Runs.{IsConsistent, IsInitial, IsStep, Leads, IsRun}
 use Rattle.scr_depend.specs.Passes.{PassesChecks}
 use Rattle.scr_next.proofs.Next.{next_state, one_next, step_consistent}
+use Rattle.scr_next.proofs.Runs.{one_next_state}
 use Rattle.scr_simulator.specs.declared.fault.ScriptFault.{ScriptFault}
 use Rattle.scr_simulator.specs.Script.{Reading, read_line}
 use Rattle.scr_simulator.specs.Scripts.{Ending, Whole, Faulty, Reads, whole, faulty, passed, taken}
+use Rattle.scr_simulator.specs.Through.{GoesThrough}
 use Rattle.scr_simulator.specs.Laws.{Goes, OneScript}
 use Rattle.scr_simulator.proofs.Inputs.{line_held}
 
@@ -84,9 +86,26 @@ leads spec at number lines inputs states ending (faulty h) = tt
 leads spec at number lines inputs states ending (passed h x) = leads spec at (number + 1) _ _ _ _ x
 leads spec at number lines inputs states ending (taken {new = n} h step x) = (step, leads spec n (number + 1) _ _ _ _ x)
 
+run : (spec : Data) (first : Codes) (number : ℕ) (lines : List (List ℕ)) (inputs : List Input) (states : List Codes) (ending : Ending) → IsInitial spec first
+    → Reads spec first number lines inputs states ending → IsRun spec inputs (first ∷ states)
+run spec first number lines inputs states ending initial reads = (initial, leads spec first number lines inputs states ending reads)
+
+through : (spec : Data) (lines : List (List ℕ)) (inputs : List Input) (states : List Codes) → GoesThrough spec lines inputs states → IsRun spec inputs states
+through spec lines inputs states g = subst (IsRun spec inputs) (sym g.is) (run spec g.first 1 lines inputs g.later Whole g.initial g.reads)
+
+through_once : (spec : Data) (order : Order) (lines : List (List ℕ)) (a b : List Input) (s t : List Codes) → PassesChecks spec order → GoesThrough spec lines a s → GoesThrough spec lines b t
+    → (a ≡ b) × (s ≡ t)
+through_once spec order lines a b s t passes g h =
+    let same : h.first ≡ g.first = one_next_state.one_initial spec order h.first g.first passes h.initial g.initial in
+    let moved : Reads spec g.first 1 lines b h.later Whole = subst (λ (u : Codes). Reads spec u 1 lines b h.later Whole) same h.reads in
+    let both = once spec order g.first 1 lines a b g.later h.later Whole Whole passes (one_next_state.starts spec g.first g.initial) g.reads moved in
+    (both.0, g.is ∙ ap (λ (xs : List Codes). g.first ∷ xs) both.1 ∙ ap (λ (u : Codes). u ∷ h.later) (sym same) ∙ sym h.is)
+
 pub one_script : OneScript
 one_script = record {
   goes = λ spec order at number lines passes consistent. goes spec order lines at number passes consistent;
   once = once;
-  run = λ spec first number lines inputs states ending initial reads. (initial, leads spec first number lines inputs states ending reads);
+  run = run;
+  through = through;
+  through_once = through_once;
 }

@@ -9,6 +9,7 @@ use Rattle.scr_next.specs.Runs.{IsConsistent, IsInitial, IsInput, IsRun}
 use Rattle.scr_depend.specs.Passes.{PassesChecks}
 use Rattle.scr_simulator.specs.Script.{read_line}
 use Rattle.scr_simulator.specs.Scripts.{Ending, Reads}
+use Rattle.scr_simulator.specs.Through.{GoesThrough}
 
 -- what a line holds is an input that may come in the state
 pub record LinesHoldInputs : Type 0 where
@@ -28,3 +29,7 @@ pub record OneScript : Type 0 where
       → Reads spec at number lines a s i → Reads spec at number lines b t j → (a ≡ b) × (s ≡ t) × (i ≡ j)
   pub run : (spec : Data) (first : Codes) (number : ℕ) (lines : List (List ℕ)) (inputs : List Input) (states : List Codes) (ending : Ending) → IsInitial spec first
       → Reads spec first number lines inputs states ending → IsRun spec inputs (first ∷ states)
+  -- so one that goes through has one list of inputs, and its states are those of their run
+  pub through : (spec : Data) (lines : List (List ℕ)) (inputs : List Input) (states : List Codes) → GoesThrough spec lines inputs states → IsRun spec inputs states
+  pub through_once : (spec : Data) (order : Order) (lines : List (List ℕ)) (a b : List Input) (s t : List Codes) → PassesChecks spec order → GoesThrough spec lines a s → GoesThrough spec lines b t
+      → (a ≡ b) × (s ≡ t)

@@ -1,0 +1,20 @@
+-- What `cover` tells of a run.
+use Rattle.std.specs.Prelude.{◌≡◌, ℕ, List, ◌∷◌, length}
+use Rattle.scr_text.specs.Lines.{lines}
+use Rattle.scr_spec.specs.Data.{Data}
+use Rattle.scr_spec.specs.declared.state.Input.{Input}
+use Rattle.scr_spec.specs.Meaning.{Codes}
+use Rattle.scr_next.specs.Runs.{IsRun}
+use Rattle.scr_simulator.specs.Through.{GoesThrough}
+use Rattle.scr_coverage.specs.Text.{coverage_text}
+
+-- the script goes through, and the bytes are the lines on all cells, each with the number of inputs of its run at which the cell
+-- held, and the line on how many inputs there are
+pub record CountsRun (spec : Data) (script bytes : List ℕ) : Type 0 where
+  pub inputs : List Input
+  pub first : Codes
+  pub later : List Codes
+  pub through : GoesThrough spec (lines script) inputs (first ∷ later)
+  pub run : IsRun spec inputs (first ∷ later)
+  pub many : length later ≡ length inputs
+  pub told : bytes ≡ coverage_text spec first later

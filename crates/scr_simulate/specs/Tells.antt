@@ -1,0 +1,25 @@
+-- What `simulate` tells of a run.
+use Rattle.std.specs.Prelude.{◌≡◌, ℕ, List}
+use Rattle.std.specs.List.{flat_map, enumerate_from}
+use Rattle.scr_text.specs.Lines.{lines}
+use Rattle.scr_spec.specs.Data.{Data}
+use Rattle.scr_spec.specs.declared.state.Input.{Input}
+use Rattle.scr_spec.specs.Meaning.{Codes}
+use Rattle.scr_next.specs.Runs.{IsRun}
+use Rattle.scr_simulator.specs.Through.{GoesThrough}
+use Rattle.scr_report.specs.Runs.{state_text}
+
+abbrev pub numbered_text : Data → ℕ × Codes → List ℕ
+numbered_text spec (number, at) = state_text spec number at
+
+-- the lines on these states, which are numbered from here on
+abbrev pub states_text : Data → ℕ → List Codes → List ℕ
+states_text spec number states = flat_map (numbered_text spec) (enumerate_from number states)
+
+-- the script goes through, and the bytes are the lines on all states of the run of its inputs, numbered from 0
+pub record TellsRun (spec : Data) (script bytes : List ℕ) : Type 0 where
+  pub inputs : List Input
+  pub states : List Codes
+  pub through : GoesThrough spec (lines script) inputs states
+  pub run : IsRun spec inputs states
+  pub told : bytes ≡ states_text spec 0 states
