@@ -109,11 +109,13 @@ right_text words spec order numbers bytes k named t =
       slice = t.slice;
       kept = t.kept;
       sliced = t.sliced;
+      printed = t.text;
       text = λ passes. subst (λ b. IsCanonical b t.slice) (sym t.text) (canonical_spells t.slice sound (subst PassesNoLimit t.text passes));
       own_order = checks.0;
       passes = checks.1;
       valid = λ inputs valid. same_runs.valid spec t.slice t.keep inputs can t.sliced valid;
       runs = λ inputs states run. same_runs.runs spec t.slice order t.keep inputs states k can t.sliced run;
+      still = λ old input new consistent step dropped. same_runs.still spec order t.keep old input new k can consistent step dropped;
     }
 
 right_by : (words : List (List ℕ)) (spec : Data) (order : Order) (bytes : List ℕ) (status : Status) → PassesChecks spec order → SlicesSpec words spec bytes status → status ≡ Done

@@ -1,17 +1,19 @@
 -- The law of slicing.
-use Rattle.std.specs.Prelude.{◌≡◌, ℕ, List, [], Option, Some}
+use Rattle.std.specs.Prelude.{◌≡◌, ℕ, false, List, [], Option, Some}
 use Rattle.scr_spec.specs.Data.{Data}
 use Rattle.scr_spec.specs.declared.state.Input.{Input}
 use Rattle.scr_spec.specs.Meaning.{Codes}
 use Rattle.scr_depend.specs.declared.order.Order.{Order}
 use Rattle.scr_depend.specs.Passes.{PassesChecks}
-use Rattle.scr_next.specs.Runs.{IsRun, AreValid}
+use Rattle.scr_depend.specs.Graphs.{is_among}
+use Rattle.scr_next.specs.Runs.{IsConsistent, IsStep, IsRun, AreValid}
+use Rattle.scr_printer.specs.Text.{canonical}
 use Rattle.scr_canonical.specs.Laws.{PassesNoLimit, IsCanonical}
 use Rattle.scr_job.specs.declared.status.Status.{Status}
 use Rattle.scr_job.specs.declared.status.Status.TheVariants.{Done}
 use Rattle.scr_job.specs.Ends.{IsFront}
 use Rattle.scr_checking.specs.Checking.{Passes}
-use Rattle.scr_slice.specs.Slices.{AreKept, IsSlice, kept_inputs, kept_states}
+use Rattle.scr_slice.specs.Slices.{AreKept, IsSlice, kept_codes, kept_inputs, kept_states}
 use Rattle.scr_slicing.specs.Names.{AreNumbers}
 use Rattle.scr_slicing.specs.Slicing.{SlicesFile}
 
@@ -22,7 +24,8 @@ pub record IsRightSlice (spec : Data) (numbers bytes : List ℕ) : Type 0 where
   -- the kept variables are those that the named ones need, and the slice is over them
   pub kept : AreKept spec numbers keep
   pub sliced : IsSlice spec keep slice
-  -- the text spells the slice and no other specification, where it passes no limit of the reader
+  -- what is written is the canonical text of the slice, which spells it and no other specification, where it passes no limit of the reader
+  pub printed : bytes ≡ canonical slice
   pub text : PassesNoLimit bytes → IsCanonical bytes slice
   -- the slice passes all checks
   pub own_order : Order
@@ -30,6 +33,8 @@ pub record IsRightSlice (spec : Data) (numbers bytes : List ℕ) : Type 0 where
   -- a valid list of inputs without those to dropped variables is valid, and its run is that of the whole on the kept variables
   pub valid : (inputs : List Input) → AreValid spec inputs → AreValid slice (kept_inputs keep inputs)
   pub runs : (inputs : List Input) (states : List Codes) → IsRun spec inputs states → IsRun slice (kept_inputs keep inputs) (kept_states keep inputs states)
+  -- at an input to a dropped variable no kept variable changes
+  pub still : (old : Codes) (input : Input) (new : Codes) → IsConsistent spec old → IsStep spec old input new → is_among keep input.variable ≡ false → kept_codes keep new ≡ kept_codes keep old
 
 pub record OneSlicing : Type 0 where
   -- files have one answer of `slice`, and never none
