@@ -17,14 +17,15 @@ _scr() {
     COMPREPLY=()
     case $COMP_CWORD:$command in
     1:*)
-        mapfile -t COMPREPLY < <(compgen -W 'check simulate replay cover invariants slice emit runc format generate large --help --version' -- "$word")
+        mapfile -t COMPREPLY < <(compgen -W 'check simulate replay cover invariants assert slice emit runc format generate large --help --version' -- "$word")
         ;;
     2:runc) _scr_files "$word" c ;;
-    2:check | 2:simulate | 2:replay | 2:cover | 2:invariants | 2:slice | 2:emit | 2:format) _scr_files "$word" scr ;;
+    2:check | 2:simulate | 2:replay | 2:cover | 2:invariants | 2:assert | 2:slice | 2:emit | 2:format) _scr_files "$word" scr ;;
     3:simulate | 3:cover) _scr_files "$word" script ;;
+    3:assert) _scr_files "$word" assert ;;
     3:replay) _scr_files "$word" replay ;;
     3:runc) _scr_files "$word" calls ;;
-    3:check | 3:invariants | 3:emit | 4:simulate | 4:replay | 4:cover)
+    3:check | 3:invariants | 3:emit | 4:simulate | 4:replay | 4:cover | 4:assert)
         mapfile -t COMPREPLY < <(compgen -W '1000 10000 40000' -- "$word")
         ;;
     2:generate | 2:large) mapfile -t COMPREPLY < <(compgen -W "$(seq 0 40)" -- "$word") ;;

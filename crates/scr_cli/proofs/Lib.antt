@@ -4,3 +4,4 @@ pub mod OneAnswer
 pub mod Printed
 pub mod Endings
 pub mod Sliced
+pub mod Both

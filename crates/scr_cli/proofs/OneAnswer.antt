@@ -3,7 +3,7 @@ use Rattle.std.proofs.Common.{◌≡◌, ℕ, List, [], Option, None, Some, refl
 use Rattle.scr_job.specs.declared.status.Status.{Status}
 use Rattle.scr_job.specs.Ends.{Files, IsFront}
 use Rattle.scr_cli.specs.declared.form.Form.{Form}
-use Rattle.scr_cli.specs.declared.form.Form.TheVariants.{Check, Simulate, Invariants, Emit, Format, RunC, Generate, Large, Cover, Replay, Slice}
+use Rattle.scr_cli.specs.declared.form.Form.TheVariants.{Check, Simulate, Invariants, Emit, Format, RunC, Generate, Large, Cover, Replay, Assert, Slice}
 use Rattle.scr_cli.specs.Form.{form_of}
 use Rattle.scr_cli.specs.Answers.{word_at, names_in, work_of, WorkAnswers, OneAnswer}
 use Rattle.scr_simulate.proofs.Files.{one_simulation}
@@ -14,6 +14,7 @@ use Rattle.scr_runc.proofs.Files.{one_answer_of_calls}
 use Rattle.scr_large.proofs.Once.{one_summary}
 use Rattle.scr_coverage.proofs.Files.{one_coverage}
 use Rattle.scr_replay.proofs.Files.{one_replay}
+use Rattle.scr_asserting.proofs.Files.{one_assertion}
 use Rattle.scr_slicing.proofs.Files.{one_slicing}
 use Rattle.scr_cli.proofs.Checked.{checks_once, some_checks}
 
@@ -30,6 +31,7 @@ form_once (Some (Generate last)) words files x y i j a b = (a.0 ∙ sym b.0, a.1
 form_once (Some (Large last)) words files x y i j a b = one_summary.once last x y i j a b
 form_once (Some (Cover limit)) words files x y i j a b = one_coverage.one limit (files (word_at 1 words)) (files (word_at 2 words)) x y i j a b
 form_once (Some (Replay limit)) words files x y i j a b = one_replay.one limit (files (word_at 1 words)) (files (word_at 2 words)) x y i j a b
+form_once (Some (Assert limit)) words files x y i j a b = one_assertion.once limit (files (word_at 1 words)) (files (word_at 2 words)) x y i j a b
 form_once (Some (Slice names limit)) words files x y i j a b = one_slicing.once (names_in names words) limit (files (word_at 1 words)) x y i j a b
 
 some_form : (f : Option Form) (words : List (List ℕ)) (files : Files) → IsFront (WorkAnswers (work_of words f) words files) []
@@ -44,6 +46,7 @@ some_form (Some (Generate last)) words files none = none _ _ (refl, refl)
 some_form (Some (Large last)) words files none = one_summary.some last none
 some_form (Some (Cover limit)) words files none = one_coverage.never_none limit (files (word_at 1 words)) (files (word_at 2 words)) none
 some_form (Some (Replay limit)) words files none = one_replay.never_none limit (files (word_at 1 words)) (files (word_at 2 words)) none
+some_form (Some (Assert limit)) words files none = one_assertion.some limit (files (word_at 1 words)) (files (word_at 2 words)) none
 some_form (Some (Slice names limit)) words files none = one_slicing.some (names_in names words) limit (files (word_at 1 words)) none
 
 pub one_answer : OneAnswer

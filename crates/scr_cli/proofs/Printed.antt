@@ -6,12 +6,14 @@ use Rattle.scr_checking.specs.Reports.{ChecksText}
 use Rattle.scr_checking.proofs.Checks.{one_checking}
 use Rattle.scr_derive.specs.Derives.{DerivesText, DerivesFile}
 use Rattle.scr_derive.proofs.Derived.{one_derivation}
+use Rattle.scr_asserting.specs.Asserts.{AssertAnswers}
+use Rattle.scr_asserting.proofs.Files.{one_assertion}
 use Rattle.scr_slicing.specs.Slicing.{SlicesFile}
 use Rattle.scr_slicing.proofs.Files.{one_slicing}
-use Rattle.scr_cli.specs.declared.form.Form.TheVariants.{Check, Invariants, Slice}
+use Rattle.scr_cli.specs.declared.form.Form.TheVariants.{Check, Invariants, Assert, Slice}
 use Rattle.scr_cli.specs.Form.{form_of}
 use Rattle.scr_cli.specs.Answers.{word_at, names_in, work_of, WorkAnswers, Answers, Checks}
-use Rattle.scr_cli.specs.Holds.{PrintedRight, PrintedHold, PrintedSlice}
+use Rattle.scr_cli.specs.Holds.{PrintedRight, PrintedHold, PrintedAsserted, PrintedSlice}
 
 -- such an answer is what is derived for the text
 derives : (words : List (List ℕ)) (files : Files) (limit : ℕ) (text bytes : List ℕ) (status : Status) → form_of words ≡ Some (Invariants limit)
@@ -37,6 +39,20 @@ pub printed_hold : PrintedHold
 printed_hold = record {
   hold = λ words files limit text bytes status spec order form there passes answer. one_derivation.hold limit text bytes status spec order passes (derives words files limit text bytes status form there answer);
   done = λ words files limit text bytes spec form there spelled answer. one_derivation.done limit text bytes (derives words files limit text bytes _ form there answer) spec spelled;
+}
+
+asserts : (words : List (List ℕ)) (files : Files) (limit : ℕ) (text second bytes : List ℕ) (status : Status) → form_of words ≡ Some (Assert limit)
+    → files (word_at 1 words) ≡ Some text → files (word_at 2 words) ≡ Some second → Answers words files bytes status → AssertAnswers limit (Some text) (Some second) bytes status
+asserts words files limit text second bytes status form there other answer =
+    let held : AssertAnswers limit (files (word_at 1 words)) (files (word_at 2 words)) bytes status = subst (λ f. WorkAnswers (work_of words f) words files bytes status) form answer in
+    subst (λ h. AssertAnswers limit (Some text) h bytes status) other (subst (λ h. AssertAnswers limit h (files (word_at 2 words)) bytes status) there held)
+
+pub printed_asserted : PrintedAsserted
+printed_asserted = record {
+  tells = λ words files limit text second bytes status spec order form there other passes answer.
+      one_assertion.tells limit text second bytes status spec order passes (asserts words files limit text second bytes status form there other answer);
+  done = λ words files limit text second bytes form there other answer.
+      one_assertion.done limit text second bytes (asserts words files limit text second bytes _ form there other answer);
 }
 
 slices : (words : List (List ℕ)) (files : Files) (names limit : ℕ) (text bytes : List ℕ) (status : Status) → form_of words ≡ Some (Slice names limit)

@@ -15,15 +15,16 @@ use Rattle.scr_generate.specs.Chain.{chain_text}
 use Rattle.scr_large.specs.Summaries.{LargeAnswers}
 use Rattle.scr_coverage.specs.Covers.{CoverAnswers}
 use Rattle.scr_replay.specs.Replays.{ReplayAnswers}
+use Rattle.scr_asserting.specs.Asserts.{AssertAnswers}
 use Rattle.scr_slicing.specs.Slicing.{SlicesFile}
 use Rattle.scr_cli.specs.declared.form.Form.{Form}
-use Rattle.scr_cli.specs.declared.form.Form.TheVariants.{Check, Simulate, Invariants, Emit, Format, RunC, Generate, Large, Cover, Replay, Slice}
+use Rattle.scr_cli.specs.declared.form.Form.TheVariants.{Check, Simulate, Invariants, Emit, Format, RunC, Generate, Large, Cover, Replay, Assert, Slice}
 use Rattle.scr_cli.specs.Form.{form_of}
 
 -- ---- the commands
 
 abbrev pub usage_text : List ℕ
-usage_text = codes "usage: scr check|simulate|invariants|emit|format|runc|generate|large|cover|replay|slice ...\n"
+usage_text = codes "usage: scr check|simulate|invariants|emit|format|runc|generate|large|assert|slice|cover|replay ...\n"
 
 -- of words that have no form
 abbrev pub IsUsage : List ℕ → Status → Type 0
@@ -67,6 +68,7 @@ work_of words (Some (Generate last)) = at_once (Generates last)
 work_of words (Some (Large last)) = at_once (LargeAnswers last)
 work_of words (Some (Cover limit)) = by_both (CoverAnswers limit) (ReachesScript limit)
 work_of words (Some (Replay limit)) = by_lines (ReplayAnswers limit) (ReachesScript limit)
+work_of words (Some (Assert limit)) = by_both (AssertAnswers limit) (ReachesScript limit)
 work_of words (Some (Slice names limit)) = by_one (SlicesFile (names_in names words) limit)
 
 abbrev pub work_for : List (List ℕ) → Work

@@ -13,9 +13,10 @@ use Rattle.scr_job.specs.Ends.{Files}
 use Rattle.scr_checking.specs.Checking.{Passes}
 use Rattle.scr_checking.specs.Tells.{TellsRight}
 use Rattle.scr_derive.specs.Laws.{PrintsWhatHolds}
+use Rattle.scr_asserting.specs.Laws.{TellsAssertions, AreProved}
 use Rattle.scr_slicing.specs.Names.{AreNumbers}
 use Rattle.scr_slicing.specs.Laws.{IsRightSlice}
-use Rattle.scr_cli.specs.declared.form.Form.TheVariants.{Check, Invariants, Slice}
+use Rattle.scr_cli.specs.declared.form.Form.TheVariants.{Check, Invariants, Assert, Slice}
 use Rattle.scr_cli.specs.Form.{form_of}
 use Rattle.scr_cli.specs.Answers.{word_at, names_in, Answers}
 
@@ -36,6 +37,16 @@ pub record PrintedHold : Type 0 where
       → files (word_at 1 words) ≡ Some text → Passes limit text spec order → Answers words files bytes status → PrintsWhatHolds spec bytes
   pub done : (words : List (List ℕ)) (files : Files) (limit : ℕ) (text bytes : List ℕ) (spec : Data) → form_of words ≡ Some (Invariants limit)
       → files (word_at 1 words) ≡ Some text → Spells text spec → Answers words files bytes Done → PrintsWhatHolds spec bytes
+
+-- an answer to the words of `assert` on a text that passes its checks: the line on why the second text spells no assertions, or a
+-- line on each of them, and each line is so; with `Done` the first text passes, and each assertion is proved
+pub record PrintedAsserted : Type 0 where
+  pub tells : (words : List (List ℕ)) (files : Files) (limit : ℕ) (text second bytes : List ℕ) (status : Status) (spec : Data) (order : Order) → form_of words ≡ Some (Assert limit)
+      → files (word_at 1 words) ≡ Some text → files (word_at 2 words) ≡ Some second → Passes limit text spec order → Answers words files bytes status
+      → TellsAssertions spec second bytes status
+  pub done : (words : List (List ℕ)) (files : Files) (limit : ℕ) (text second bytes : List ℕ) → form_of words ≡ Some (Assert limit)
+      → files (word_at 1 words) ≡ Some text → files (word_at 2 words) ≡ Some second → Answers words files bytes Done
+      → (spec : Data) × (order : Order) × Passes limit text spec order × AreProved spec second
 
 -- an answer to the words of `slice` with `Done`: the text passes its checks, the words behind the file name variables, and what is
 -- written is the slice that they need, which passes all checks itself and whose runs are those of the whole

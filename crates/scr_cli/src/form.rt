@@ -33,6 +33,8 @@ pub enum Form {
     Cover { limit: u32 },
     /// `replay F S` and `replay F S LIMIT`, likewise.
     Replay { limit: u32 },
+    /// `assert F P` and `assert F P LIMIT`, likewise.
+    Assert { limit: u32 },
     /// `slice F NAME..` and `slice F NAME.. LIMIT`, likewise, with the number of names.
     Slice { names: usize, limit: u32 },
 }
@@ -161,6 +163,9 @@ pub(crate) fn parse(words: &[String]) -> Option<Form>
             limit: limit_behind(2, rest)?,
         }),
         "replay" => Some(Form::Replay {
+            limit: limit_behind(2, rest)?,
+        }),
+        "assert" => Some(Form::Assert {
             limit: limit_behind(2, rest)?,
         }),
         "slice" => slice_form(rest),

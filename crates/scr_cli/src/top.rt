@@ -3,12 +3,13 @@ ghost use Rattle.std.specs.Prelude.{◌≡◌, ◌≢◌, ◌⊎◌, None, IfOk,
 ghost use Rattle.scr_io.specs.Outside.{HasRisen};
 ghost use Rattle.scr_job.specs.Ends.{Answered, Stopped, Wrote, IsCut, Ended, is_own};
 ghost use Rattle.scr_cli.specs.Form.{form_of};
-ghost use Rattle.scr_cli.specs.Holds.{PrintedRight, PrintedHold, PrintedSlice};
+ghost use Rattle.scr_cli.specs.Holds.{PrintedRight, PrintedHold, PrintedAsserted, PrintedSlice};
 ghost use Rattle.scr_cli.specs.Answers.{Answers, OneAnswer, IsUsage, HoldsFiles, begins_none, reads_first, told_for, work_for};
 
 use crate::check::Check;
 use crate::form::{Form, parse};
 use crate::generate::Generate;
+use scr_asserting::Assert;
 use scr_coverage::Cover;
 use scr_derive::Invariants;
 use scr_emit::Emit;
@@ -32,7 +33,7 @@ fn usage<K: Sink>(out: &mut K) -> Result<Status, Stop>
 {
     put(
         out,
-        b"usage: scr check|simulate|invariants|emit|format|runc|generate|large|cover|replay|slice ...\n",
+        b"usage: scr check|simulate|invariants|emit|format|runc|generate|large|assert|slice|cover|replay ...\n",
     )?;
     Ok(Status::Usage)
 }
@@ -122,6 +123,17 @@ fn dispatch<S: Shelf, K: Sink>(
                 out,
             )
         }
+        Some(Form::Assert { limit }) => {
+            let command = Assert { nodes: limit };
+            respond_by_lines(
+                &command,
+                alloc,
+                words[1].as_str(),
+                words[2].as_str(),
+                shelf,
+                out,
+            )
+        }
         Some(Form::Slice { names, limit }) => {
             let job = Slice {
                 nodes: limit,
@@ -148,6 +160,8 @@ fn dispatch<S: Shelf, K: Sink>(
 ///   and `ReadFault` never comes.
 /// - `succeeds`: on a steady shelf that holds each file that the work reaches, `ReadFault` never
 ///   comes. So a failure at any other file cannot be its cause.
+/// - `complete`: where neither the shelf nor the sink failed in this call, the answer is whole, or the status
+///   is `NoMemory`.
 ///
 /// `NoMemory` may come at any growth of memory.
 pub fn run<S: Shelf, K: Sink>(alloc: Global, words: &[String], shelf: &mut S, out: &mut K) -> Status
@@ -167,6 +181,9 @@ pub fn run<S: Shelf, K: Sink>(alloc: Global, words: &[String], shelf: &mut S, ou
     ensures succeeds { S.steady shelf.old
         → HoldsFiles (S.contents shelf.old) (work_for (map string_bytes words.now)) (map string_bytes words.now)
         → result ≢ Status.ReadFault }
+    ensures complete { ¬ HasRisen (S.faults shelf.old) (S.faults shelf.new) → ¬ HasRisen (K.faults out.old) (K.faults out.new)
+        → (result ≡ Status.NoMemory) ⊎ Answered (told_for (work_for (map string_bytes words.now)) (S.contents shelf.old))
+        (K.written out.old) (K.written out.new) (Answers (map string_bytes words.now)) result }
 {
     match dispatch(alloc, words, shelf, out) {
         Ok(status) => status,
@@ -191,6 +208,13 @@ pub fn printed_right()
 /// file spells, whether it ends with `Done`, or with `Undecided` since a class is undecided.
 pub fn printed_hold()
     ensures { PrintedHold }
+{}
+
+/// What `assert` prints on each assertion is so: one that is proved holds in every state, or at every step, of
+/// every run of the specification that its file spells; one that is false at first is so in the first state;
+/// and one that is unproved has its least witness.
+pub fn printed_asserted()
+    ensures { PrintedAsserted }
 {}
 
 /// What `slice` writes with `Done` is the slice that the named variables need: it keeps all rules, passes all

@@ -5,6 +5,7 @@ use Rattle.scr_spec.specs.Data.{Data}
 use Rattle.scr_goals.specs.declared.goal.GoalKind.{GoalKind}
 use Rattle.scr_goals.specs.declared.goal.GoalKind.TheVariants.{Disjoint, Cover, Range}
 use Rattle.scr_goals.specs.declared.goal.Goal.{Goal}
+use Rattle.scr_decide.specs.declared.witness.Reading.{Reading}
 use Rattle.scr_decide.specs.declared.witness.Witness.{Witness}
 use Rattle.scr_verdict.specs.declared.verdict.Verdict.{Verdict}
 use Rattle.scr_verdict.specs.declared.verdict.Verdict.TheVariants.{Yes, No, Undecided}
@@ -27,9 +28,12 @@ place_text Disjoint g = codes "no disjoint row " ++ decimal g.row ++ codes " col
 place_text Cover g = codes "no cover row " ++ decimal g.row ++ codes ":"
 place_text Range g = codes "no range row " ++ decimal g.row ++ codes " column " ++ decimal g.first ++ codes ":"
 
--- the readings of a witness
+abbrev pub readings_text : Data → List Reading → List ℕ
+readings_text spec readings = flat_map (reading_text spec) readings
+
+-- the codes of a witness
 abbrev pub witness_text : Data → Witness → List ℕ
-witness_text spec w = flat_map (reading_text spec) w.readings
+witness_text spec w = readings_text spec w.readings
 
 abbrev pub outcome_text : Data → Verdict → List ℕ
 outcome_text spec Yes = codes "yes"

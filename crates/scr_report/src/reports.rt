@@ -9,7 +9,7 @@ use scr_goals::{Goal, GoalKind};
 use scr_printer::variable_name;
 use scr_spec::Spec;
 use scr_text::NoMemory;
-use scr_verdict::{Verdict, Witness};
+use scr_verdict::{Reading, Verdict, Witness};
 use std::alloc::Global;
 
 /// Appends the line on the order of evaluation: `order:` and each name after a space. After a fault
@@ -56,13 +56,24 @@ fn place_text(alloc: Global, goal: &Goal) -> Result<String, NoMemory>
     }
 }
 
-/// The readings of a witness.
-fn push_witness(out: &mut Vec<u8>, spec: &Spec, witness: &Witness) -> Result<(), NoMemory>
-    ensures { OnOk result (out.new.items ≡ out.old.items ++ text.witness_text (data_of spec.now) witness.now) }
+fn push_readings(out: &mut Vec<u8>, spec: &Spec, readings: &[Reading]) -> Result<(), NoMemory>
+    ensures { OnOk result (out.new.items ≡ out.old.items ++ text.readings_text (data_of spec.now) readings.now) }
 {
-    for reading in witness.readings.as_slice() {
+    for reading in readings {
         push_reading(out, spec, reading)?;
     }
+    Ok(())
+}
+
+/// Appends the codes of a witness: ` X=value` for an old level and ` X'=value` for a new one, in the order
+/// of the levels. After a fault `out` is unchanged.
+pub fn push_witness(out: &mut Vec<u8>, spec: &Spec, witness: &Witness) -> Result<(), NoMemory>
+    ensures { MatchResult result (λ _. out.new.items ≡ out.old.items ++ text.witness_text (data_of spec.now) witness.now)
+        (λ _. out.new.items ≡ out.old.items) }
+{
+    let mut readings = Vec::new(*out.allocator());
+    push_readings(&mut readings, spec, witness.readings.as_slice())?;
+    out.extend_from_slice(readings.as_slice())?;
     Ok(())
 }
 

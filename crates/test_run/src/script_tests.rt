@@ -1,4 +1,4 @@
-//! Runs of `simulate`, and of `cover` where the script cannot be read, with the bytes and the status that are wanted.
+//! Runs of `simulate`, and of `cover` and `assert` where the second file cannot be read, with the bytes and the status that are wanted.
 
 use scr_cli::{Status, run};
 use scr_io::{MemoryFile, MemoryShelf, MemorySink};
@@ -78,12 +78,17 @@ fn writes_the_first_state_before_it_looks_for_the_script(rt: HostRuntime) -> Res
 }
 
 #[test]
-fn covers_nothing_before_the_script_is_read(rt: HostRuntime) -> Result<(), Fail> {
+fn writes_nothing_before_the_second_file_is_read(rt: HostRuntime) -> Result<(), Fail> {
     let alloc = rt.alloc();
-    for (script, call) in [("missing", 0), ("s", 22)] {
-        let (status, written) = run_by(alloc, "cover", script, TEXT, SCRIPT, call)?;
-        assert_eq!(rt; status, Status::ReadFault, "{script}");
-        assert_eq!(rt; written.len(), 0, "{script}");
+    for (command, second, call) in [
+        ("cover", "missing", 0),
+        ("cover", "s", 22),
+        ("assert", "missing", 0),
+        ("assert", "s", 22),
+    ] {
+        let (status, written) = run_by(alloc, command, second, TEXT, SCRIPT, call)?;
+        assert_eq!(rt; status, Status::ReadFault, "{command} {second}");
+        assert_eq!(rt; written.len(), 0, "{command} {second}");
     }
     Ok(())
 }

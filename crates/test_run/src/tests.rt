@@ -16,10 +16,10 @@ const UNDECIDED: &[u8] = b"order: t\ntable t: undecided\n";
 
 // None at all, and then a list on each line, of which one has an empty word.
 const NO_FORM: &str =
-    "\ncheck\ncheck f 0\ncheck f 40001\ncheck f 007\ncheck f +5\ncheck f 1x\ncheck f \ncheck f 5 5\nCHECK f\nsimulate f\nsimulate f s 0\ngenerate\ngenerate 41\ngenerate 00\ngenerate 0 0\nlarge +1\nlarge f\ncover f\ncover f s 0\nreplay f\nslice\nslice f";
+    "\ncheck\ncheck f 0\ncheck f 40001\ncheck f 007\ncheck f +5\ncheck f 1x\ncheck f \ncheck f 5 5\nCHECK f\nsimulate f\nsimulate f s 0\ngenerate\ngenerate 41\ngenerate 00\ngenerate 0 0\nlarge +1\nlarge f\nassert f\nassert f p 0\nassert f p 5 5\ncover f\ncover f s 0\nreplay f\nslice\nslice f";
 
 const USAGE: &[u8] =
-    b"usage: scr check|simulate|invariants|emit|format|runc|generate|large|cover|replay|slice ...\n";
+    b"usage: scr check|simulate|invariants|emit|format|runc|generate|large|assert|slice|cover|replay ...\n";
 
 const SUMMARY: &[u8] =
     b"stages 1\ntables 3: yes 3, no 0, undecided 0\ninvariants 2\ninputs 3\n3 Reset=TRUE Input=0 L0=FALSE Phase=Idle Out=FALSE\n";

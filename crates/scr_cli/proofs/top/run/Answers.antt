@@ -1,4 +1,4 @@
-use Rattle.std.proofs.Common.{◌≡◌, None, map, string_bytes}
+use Rattle.std.proofs.Common.{◌≡◌, None, map, string_bytes, refl, inl, inr}
 use Rattle.scr_cli.specs.Answers.{Answers, told_for, work_for}
 use Rattle.scr_cli.specs.Form.{form_of}
 use Rattle.scr_cli.proofs.Endings.{ended_so}
@@ -8,3 +8,9 @@ pub returns-in-Ok-clause-ended : goal.returns-in-Ok-clause-ended
 returns-in-Ok-clause-ended g c =
     let words = map string_bytes c.args.words.now in
     ended_so (told_for (work_for words) (g.S.Shelf.contents c.args.shelf.now)) _ _ (Answers words) c.in-Ok.status (form_of words ≡ None) c.in-Ok.ensures.status c.in-Ok.ensures.answered
+
+pub returns-in-Ok-clause-complete : goal.returns-in-Ok-clause-complete
+returns-in-Ok-clause-complete g c = λ shelf sink. inr c.in-Ok.ensures.answered
+
+pub returns-in-Err-NoMemory-clause-complete : goal.returns-in-Err-NoMemory-clause-complete
+returns-in-Err-NoMemory-clause-complete g c = λ shelf sink. inl refl

@@ -1,0 +1,35 @@
+-- Where a run with verdicts ends with Done, each is a yes.
+use Rattle.std.proofs.Common.{◌≡◌, ℕ, zero, suc, Bool, true, false, List, [], ◌∷◌, length, Some, refl, sym, arith}
+use Rattle.std.specs.Prelude.{slice_get, if◌then◌else◌}
+use Rattle.std.specs.List.{list_any}
+use Rattle.scr_job.specs.declared.status.Status.TheVariants as status
+use Rattle.scr_assertions.specs.declared.assertion.Assertion.{Assertion}
+use Rattle.scr_assert.specs.declared.verdict.AssertVerdict.{AssertVerdict}
+use Rattle.scr_assert.specs.declared.verdict.AssertVerdict.TheVariants.{Yes, FalseInitial, Unproved, Undecided}
+use Rattle.scr_asserting.specs.Asserts.{is_finding, is_undecided, verdicts_status}
+
+neither : (finding undecided : Bool) → (if finding then status.Findings else (if undecided then status.Undecided else status.Done)) ≡ status.Done → (finding ≡ false) × (undecided ≡ false)
+neither true undecided e = cc
+neither false true e = cc
+neither false false e = (refl, refl)
+
+each_yes : (vs : List AssertVerdict) → list_any is_finding vs ≡ false → list_any is_undecided vs ≡ false → (i : ℕ) (v : AssertVerdict) → slice_get vs i ≡ Some v → v ≡ Yes
+each_yes [] f u i v e = cc
+each_yes (Yes ∷ vs) f u zero v e = cc
+each_yes (Yes ∷ vs) f u (suc i) v e = each_yes vs f u i v e
+each_yes (FalseInitial ∷ vs) f u i v e = cc
+each_yes (Unproved w ∷ vs) f u i v e = cc
+each_yes (Undecided ∷ vs) f u i v e = cc
+
+pub all_yes : (vs : List AssertVerdict) → status.Done ≡ verdicts_status vs → (i : ℕ) (v : AssertVerdict) → slice_get vs i ≡ Some v → v ≡ Yes
+all_yes vs done i v e =
+    let both = neither (list_any is_finding vs) (list_any is_undecided vs) (sym done) in
+    each_yes vs both.0 both.1 i v e
+
+-- each assertion has its verdict
+pub verdict_at : (assertions : List Assertion) (vs : List AssertVerdict) (i : ℕ) (a : Assertion) → length vs ≡ length assertions → slice_get assertions i ≡ Some a
+    → (v : AssertVerdict) × (slice_get vs i ≡ Some v)
+verdict_at [] vs i a long e = cc
+verdict_at (b ∷ bs) [] i a long e = cc
+verdict_at (b ∷ bs) (v ∷ vs) zero a long e = (v, refl)
+verdict_at (b ∷ bs) (v ∷ vs) (suc i) a long e = verdict_at bs vs i a (omega (arith, long)) e

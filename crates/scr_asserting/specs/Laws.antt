@@ -1,0 +1,61 @@
+-- The law of assertions.
+use Rattle.std.specs.Prelude.{◌≡◌, ◌⊎◌, ℕ, List, [], Option, Some, slice_get}
+use Rattle.scr_spec.specs.Data.{Data}
+use Rattle.scr_spec.specs.declared.state.Input.{Input}
+use Rattle.scr_spec.specs.Meaning.{Codes}
+use Rattle.scr_depend.specs.declared.order.Order.{Order}
+use Rattle.scr_depend.specs.Dependencies.{graph_of}
+use Rattle.scr_depend.specs.Orders.{IsOrder}
+use Rattle.scr_next.specs.Runs.{IsRun}
+use Rattle.scr_assertions.specs.declared.assertion.Assertion.{Assertion}
+use Rattle.scr_assertions.specs.Texts.{AssertionsOf}
+use Rattle.scr_assert.specs.declared.lemma.Lemma.{Lemma}
+use Rattle.scr_assert.specs.declared.verdict.AssertVerdict.{AssertVerdict}
+use Rattle.scr_assert.specs.Judged.{HasEach}
+use Rattle.scr_assert.specs.Laws.{HoldInRuns, IsTrueAlong, IsSo}
+use Rattle.scr_job.specs.declared.status.Status.{Status}
+use Rattle.scr_job.specs.declared.status.Status.TheVariants.{Done, AssertRefused}
+use Rattle.scr_job.specs.Ends.{IsFront}
+use Rattle.scr_checking.specs.Checking.{Passes}
+use Rattle.scr_asserting.specs.Texts.{verdicts_text}
+use Rattle.scr_asserting.specs.Asserts.{IsRefusedWith, verdicts_status, AssertAnswers}
+
+-- ---- what is written
+
+-- a line on each assertion that the text makes, and each verdict tells what is so; all that is taken for granted holds in every state
+-- of every run
+pub record TellsVerdicts (spec : Data) (text bytes : List ℕ) (status : Status) : Type 0 where
+  pub assertions : List Assertion
+  pub spells : AssertionsOf text spec assertions
+  pub verdicts : List AssertVerdict
+  pub printed : bytes ≡ verdicts_text spec assertions verdicts
+  pub ending : status ≡ verdicts_status verdicts
+  pub order : List ℕ
+  pub ordered : IsOrder (graph_of spec) order
+  pub lemmas : List Lemma
+  pub granted : HoldInRuns spec lemmas
+  pub so : HasEach (IsSo spec order lemmas) assertions verdicts
+
+-- or the line on why it makes none
+abbrev pub TellsRefusal : Data → List ℕ → List ℕ → Status → Type 0
+TellsRefusal spec text bytes status = IsRefusedWith text spec bytes × (status ≡ AssertRefused)
+
+abbrev pub TellsAssertions : Data → List ℕ → List ℕ → Status → Type 0
+TellsAssertions spec text bytes status = TellsVerdicts spec text bytes status ⊎ TellsRefusal spec text bytes status
+
+-- each assertion that the text makes is proved: it is true in every state, or between every two neighbouring states, of every run
+pub record AreProved (spec : Data) (text : List ℕ) : Type 0 where
+  pub assertions : List Assertion
+  pub spells : AssertionsOf text spec assertions
+  pub each : (i : ℕ) (a : Assertion) → slice_get assertions i ≡ Some a → (inputs : List Input) (states : List Codes) → IsRun spec inputs states → IsTrueAlong spec a.two a.cond states
+
+pub record OneAssertion : Type 0 where
+  -- files have one answer of `assert`, and never none
+  pub once : (limit : ℕ) (held second : Option (List ℕ)) (x y : List ℕ) (i j : Status) → AssertAnswers limit held second x i → AssertAnswers limit held second y j → (x ≡ y) × (i ≡ j)
+  pub some : (limit : ℕ) (held second : Option (List ℕ)) → IsFront (AssertAnswers limit held second) []
+  -- for a text that passes its checks each line is so
+  pub tells : (limit : ℕ) (text second bytes : List ℕ) (status : Status) (spec : Data) (order : Order) → Passes limit text spec order
+      → AssertAnswers limit (Some text) (Some second) bytes status → TellsAssertions spec second bytes status
+  -- with `Done` the text passes, and each assertion is proved
+  pub done : (limit : ℕ) (text second bytes : List ℕ) → AssertAnswers limit (Some text) (Some second) bytes Done
+      → (spec : Data) × (order : Order) × Passes limit text spec order × AreProved spec second
