@@ -26,7 +26,7 @@ IsIn-later old new t grown h = either (list_any (tree_eq t) new) refl
     either false e =
         absurd (false≢true (sym (found_nowhere old t (λ i lt is. not_at new t i e (omega (arith, lt, grown.longer)) (grown.same i (leaf false) lt ∙ is))) ∙ h))
 
-AreIn-later : (old new us : List Tree) → Extends old new → AreIn old us → AreIn new us
+pub AreIn-later : (old new us : List Tree) → Extends old new → AreIn old us → AreIn new us
 AreIn-later old new [] grown h = tt
 AreIn-later old new (u ∷ us) grown h = (IsIn-later old new u grown h.0, AreIn-later old new us grown h.1)
 

@@ -2,6 +2,7 @@
 ghost use Rattle.std.specs.Prelude.{◌≡◌, ◌++◌, IfOk, length};
 ghost use Rattle.dd_formula.specs.declared.formula.Formula.TheVariants.{And};
 ghost use Rattle.dd_store.specs.Held.{Has};
+ghost use Rattle.dd_build.specs.Built.{Keeps};
 ghost use Rattle.dd_build.specs.Formulas.{IsFormulaOver, AreFormulasOver, formula_tree};
 ghost use Rattle.scr_decide.specs.Decisions.{IsDecision, IsAnswer};
 
@@ -44,8 +45,8 @@ fn answer(
     Ok(None)
 }
 
-/// Lists the conjunction of members in two places behind the formulas whose trees are in the store.
-/// `codes` has a place for each level.
+/// Lists the conjunction of members in two places behind the formulas whose trees are in the store, which holds what it
+/// held after a fault, too. `codes` has a place for each level.
 pub fn list_conjunction(
     alloc: Global,
     store: &mut Store,
@@ -58,6 +59,7 @@ pub fn list_conjunction(
     requires long { length codes.old ≡ length store.old.domains }
     ensures decision { IfOk result (IsDecision store.old store.new (And (first.now ++ rest.now))) }
     ensures domains { store.new.domains ≡ store.old.domains }
+    ensures keeps { Keeps store.old store.new }
     ensures long { length codes.new ≡ length codes.old }
 {
     let id = match build_conjunction(store, first, rest) {
@@ -71,7 +73,8 @@ pub fn list_conjunction(
     }
 }
 
-/// Lists a formula behind those whose trees are in the store. `codes` has a place for each level.
+/// Lists a formula behind those whose trees are in the store, which holds what it held after a fault, too. `codes` has a
+/// place for each level.
 pub fn list_formula(
     alloc: Global,
     store: &mut Store,
@@ -82,6 +85,7 @@ pub fn list_formula(
     requires long { length codes.old ≡ length store.old.domains }
     ensures decision { IfOk result (IsDecision store.old store.new f.now) }
     ensures domains { store.new.domains ≡ store.old.domains }
+    ensures keeps { Keeps store.old store.new }
     ensures long { length codes.new ≡ length codes.old }
 {
     list_conjunction(alloc, store, codes, slice::from_ref(f), &[])
