@@ -5,3 +5,4 @@ pub mod Telling
 pub mod Checks
 pub mod First
 pub mod Scripts
+pub mod Refused

@@ -1,5 +1,5 @@
 -- What `cover` answers for its files.
-use Rattle.std.proofs.Common.{◌≡◌, ℕ, List, [], ◌++◌, length, map, Option, None, Some, refl, sym, subst, ◌∙◌}
+use Rattle.std.proofs.Common.{◌≡◌, ℕ, List, [], map, Option, None, Some, refl, sym, subst, ◌∙◌}
 use Rattle.scr_spec.specs.Data.{Data}
 use Rattle.scr_spec.specs.Meaning.{Codes}
 use Rattle.scr_depend.specs.declared.order.Order.{Order}
@@ -21,6 +21,7 @@ use Rattle.scr_coverage.specs.Laws.{OneCoverage}
 use Rattle.scr_coverage.proofs.Existence.{some_answer}
 use Rattle.scr_coverage.proofs.Once.{once}
 use Rattle.scr_coverage.proofs.Run.{run}
+use Rattle.scr_coverage.proofs.Front.{front}
 
 -- ---- by the script
 
@@ -65,6 +66,7 @@ one_coverage = record {
   one = λ limit held script x y i j. both_once CoversFile limit held script x y i j (λ spec order. file_once spec order script);
   never_none = some_answers;
   run = run;
+  front = front;
 }
 
 -- ---- of the command

@@ -1,6 +1,5 @@
 -- With `Done` the inputs of the script's run were counted.
-use Rattle.std.proofs.Common.{◌≡◌, ℕ, suc, ◌+◌, ◌-◌, Bool, true, false, List, [], ◌∷◌, ◌++◌, length, Some, refl, sym, ap, subst, ◌∙◌}
-use Rattle.std.specs.Prelude.{if◌then◌else◌}
+use Rattle.std.proofs.Common.{◌≡◌, ℕ, suc, ◌+◌, ◌-◌, List, [], ◌∷◌, ◌++◌, length, Some, refl, sym, ap, subst, ◌∙◌}
 use Rattle.std.proofs.lemmas.List.{append_assoc, append-nil}
 use Rattle.scr_io.specs.declared.lines.Piece.{Piece}
 use Rattle.scr_io.specs.declared.lines.Piece.TheVariants.{Line, Long, Past, End}
@@ -16,10 +15,10 @@ use Rattle.scr_simulator.specs.Through.{GoesThrough}
 use Rattle.scr_simulator.proofs.ScriptLines.{lines_taken}
 use Rattle.scr_simulator.proofs.Whole.{one_script}
 use Rattle.scr_job.specs.declared.status.Status.{Status}
-use Rattle.scr_job.specs.declared.status.Status.TheVariants.{Done, ScriptRefused}
+use Rattle.scr_job.specs.declared.status.Status.TheVariants.{Done}
 use Rattle.scr_job.specs.Session.{behind}
 use Rattle.scr_job.specs.Closing.{closing_text, closing_status}
-use Rattle.scr_job.proofs.ClosingLemmas.{line_there}
+use Rattle.scr_job.proofs.ClosingLemmas.{line_there, at_end, refused_done}
 use Rattle.scr_checking.specs.Checking.{Passes, finished, passed as passes_first}
 use Rattle.scr_coverage.specs.Text.{coverage_text}
 use Rattle.scr_coverage.specs.Covers.{Covers, closed, faulty, passed, taken, CoversFile, CoverAnswers}
@@ -32,18 +31,6 @@ record CountsRest (spec : Data) (first : Codes) (before : List Codes) (at : Code
   reads : Reads spec at number (lines rest) inputs states Whole
   many : length states ≡ length inputs
   told : bytes ≡ coverage_text spec first (before ++ states)
-
-at_end : (room : ℕ) (rest : List ℕ) → next_piece room rest ≡ End → rest ≡ []
-at_end room [] h = refl
-at_end room (b ∷ bytes) h = absurd (other _ _ h)
-  where
-    other : (past long : Bool) → (if past then Past else (if long then Long else Line)) ≡ End → ⊥
-    other true long e = cc
-    other false true e = cc
-    other false false e = cc
-
-refused_done : ScriptRefused ≡ Done → ⊥
-refused_done e = cc
 
 module _ (spec : Data) (first : Codes) (before : List Codes) (at : Codes) (number room : ℕ) (rest bytes : List ℕ) where
   counts_end : (piece : Piece) → next_piece room rest ≡ piece → (piece ≡ Line → ⊥) → bytes ≡ coverage_text spec first before ++ closing_text number piece → closing_status piece ≡ Done

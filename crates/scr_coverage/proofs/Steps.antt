@@ -27,7 +27,7 @@ use Rattle.scr_cover.specs.Counts.{raised}
 use Rattle.scr_cover.specs.Tallies.{IsTally}
 use Rattle.scr_cover.proofs.Tallied.{one_cover}
 use Rattle.scr_coverage.specs.Text.{tally_text, coverage_text}
-use Rattle.scr_coverage.specs.Covers.{Covers, closed, faulty, passed, taken, CoversTally}
+use Rattle.scr_coverage.specs.Covers.{closed, faulty, passed, taken, CoversTally}
 
 -- the text of a tally is that of the run that it counts
 tells : (spec : Data) (first : Codes) (states : List Codes) (counts : List Count) (at : Codes) (notes : ℕ) → IsTally spec first states counts at notes

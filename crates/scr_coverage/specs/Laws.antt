@@ -6,11 +6,11 @@ use Rattle.scr_depend.specs.declared.order.Order.{Order}
 use Rattle.scr_depend.specs.Passes.{PassesChecks}
 use Rattle.scr_next.specs.Runs.{IsConsistent}
 use Rattle.scr_job.specs.declared.status.Status.{Status}
-use Rattle.scr_job.specs.declared.status.Status.TheVariants.{Done}
+use Rattle.scr_job.specs.declared.status.Status.TheVariants.{Done, ScriptRefused}
 use Rattle.scr_job.specs.Ends.{IsFront, HasFront}
 use Rattle.scr_checking.specs.Checking.{Passes}
 use Rattle.scr_coverage.specs.Covers.{Covers, CoversFile, CoverAnswers}
-use Rattle.scr_coverage.specs.Tells.{CountsRun}
+use Rattle.scr_coverage.specs.Tells.{CountsRun, CountsFront}
 
 pub record OneCoverage : Type 0 where
   -- from a consistent state on, a rest of a script has one answer
@@ -25,3 +25,6 @@ pub record OneCoverage : Type 0 where
   pub never_none : (limit : ℕ) (held script : Option (List ℕ)) → IsFront (CoverAnswers limit held script) []
   -- with `Done` the text passes its checks, and what is written counts for each cell the inputs of the script's run at which it held
   pub run : (limit : ℕ) (text script bytes : List ℕ) → CoverAnswers limit (Some text) (Some script) bytes Done → (spec : Data) × (order : Order) × Passes limit text spec order × CountsRun spec script bytes
+  -- with `ScriptRefused` it passes as well, and the same was written of the lines in front of the one at which the script stops, and then its fault
+  pub front : (limit : ℕ) (text script bytes : List ℕ) → CoverAnswers limit (Some text) (Some script) bytes ScriptRefused
+      → (spec : Data) × (order : Order) × Passes limit text spec order × CountsFront spec script bytes

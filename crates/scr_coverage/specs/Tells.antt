@@ -1,11 +1,16 @@
 -- What `cover` tells of a run.
-use Rattle.std.specs.Prelude.{◌≡◌, ℕ, List, ◌∷◌, length}
+use Rattle.std.specs.Prelude.{◌≡◌, ℕ, ◌+◌, ◌-◌, List, ◌∷◌, ◌++◌, length}
 use Rattle.scr_text.specs.Lines.{lines}
 use Rattle.scr_spec.specs.Data.{Data}
 use Rattle.scr_spec.specs.declared.state.Input.{Input}
 use Rattle.scr_spec.specs.Meaning.{Codes}
 use Rattle.scr_next.specs.Runs.{IsRun}
 use Rattle.scr_simulator.specs.Through.{GoesThrough}
+use Rattle.scr_simulator.specs.Front.{IsFaulty, GoesThroughTo}
+use Rattle.scr_script.specs.declared.fault.ScriptKind.{ScriptKind}
+use Rattle.scr_script.specs.Faults.{script_fault}
+use Rattle.scr_job.specs.declared.walk.TheConstants.{SCRIPT_LIMIT}
+use Rattle.scr_job.specs.Stops.{StopsScript}
 use Rattle.scr_coverage.specs.Text.{coverage_text}
 
 -- the script goes through, and the bytes are the lines on all cells, each with the number of inputs of its run at which the cell
@@ -18,3 +23,18 @@ pub record CountsRun (spec : Data) (script bytes : List ℕ) : Type 0 where
   pub run : IsRun spec inputs (first ∷ later)
   pub many : length later ≡ length inputs
   pub told : bytes ≡ coverage_text spec first later
+
+-- The lines in front go through, and the script stops at the first one that is left: the bytes count the run of their inputs, and
+-- end with the line on the fault of that one.
+pub record CountsFront (spec : Data) (script bytes : List ℕ) : Type 0 where
+  pub front : List ℕ
+  pub left : List ℕ
+  pub inputs : List Input
+  pub first : Codes
+  pub later : List Codes
+  pub last : Codes
+  pub goes : GoesThroughTo spec script front left inputs (first ∷ later) last
+  pub many : length later ≡ length inputs
+  pub fault : ScriptKind
+  pub stops : StopsScript (IsFaulty spec last) (SCRIPT_LIMIT - length front) left fault
+  pub told : bytes ≡ coverage_text spec first later ++ script_fault (length (lines front) + 1) fault

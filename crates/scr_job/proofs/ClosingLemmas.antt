@@ -1,5 +1,5 @@
 -- The end of a script, and how long its lines are.
-use Rattle.std.proofs.Common.{◌≡◌, ℕ, ◌<◌, true, false, List, [], ◌∷◌, ◌++◌, length, Result, Ok, Err, refl, ap, arith, ◌∙◌}
+use Rattle.std.proofs.Common.{◌≡◌, ℕ, ◌<◌, Bool, true, false, List, [], ◌∷◌, ◌++◌, length, Result, Ok, Err, refl, ap, arith, ◌∙◌}
 use Rattle.std.specs.Prelude.{OnOk, IfOk, ◌==◌, if◌then◌else◌}
 use Rattle.std.specs.Io.BufRead.{take_through}
 use Rattle.scr_io.specs.declared.lines.Piece.{Piece}
@@ -8,6 +8,7 @@ use Rattle.scr_io.specs.Line.{next_piece}
 use Rattle.scr_text.specs.declared.memory.NoMemory.{NoMemory}
 use Rattle.scr_text.specs.Ends.{line_with_end}
 use Rattle.scr_job.specs.declared.status.Status.{Status}
+use Rattle.scr_job.specs.declared.status.Status.TheVariants.{Done, ScriptRefused}
 use Rattle.scr_job.specs.Ends.{is_own}
 use Rattle.scr_job.specs.Session.{Answering, IsClosed}
 use Rattle.scr_job.specs.Closing.{closing_text, closing_status}
@@ -39,3 +40,17 @@ line_some (b ∷ bytes) h =
 pub line_there : (room : ℕ) (rest : List ℕ) → next_piece room rest ≡ Line → 0 < length rest
 line_there room [] h = cc
 line_there room (b ∷ bytes) h = omega arith
+
+-- where a file is at its end nothing is left
+pub at_end : (room : ℕ) (rest : List ℕ) → next_piece room rest ≡ End → rest ≡ []
+at_end room [] h = refl
+at_end room (b ∷ bytes) h = absurd (other _ _ h)
+  where
+    other : (past long : Bool) → (if past then Past else (if long then Long else Line)) ≡ End → ⊥
+    other true long e = cc
+    other false true e = cc
+    other false false e = cc
+
+-- a script that is refused is not done
+pub refused_done : ScriptRefused ≡ Done → ⊥
+refused_done e = cc

@@ -4,3 +4,4 @@ pub mod FileLemmas
 pub mod CommandLemmas
 pub mod ClosingLemmas
 pub mod GatherLemmas
+pub mod StopsLemmas

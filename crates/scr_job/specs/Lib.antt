@@ -5,3 +5,4 @@ pub mod Session
 pub mod Walk
 pub mod Command
 pub mod Closing
+pub mod Stops

@@ -1,15 +1,12 @@
 -- Each rest of a script has an answer.
-use Rattle.std.proofs.Common.{◌≡◌, ℕ, zero, suc, ◌+◌, ◌-◌, ◌<◌, ◌≤◌, List, [], ◌∷◌, ◌++◌, length, Option, None, Some, Result, Ok, Err, true, false, refl, sym, ap, subst, ◌∙◌, arith, length-drop}
+use Rattle.std.proofs.Common.{◌≡◌, ℕ, zero, suc, ◌+◌, ◌-◌, ◌<◌, ◌≤◌, List, [], ◌∷◌, ◌++◌, length, Option, None, Some, Ok, Err, true, false, refl, ap, subst, arith, length-drop}
 use Rattle.std.specs.Prelude.{nat_le}
 use Rattle.std.proofs.lemmas.Bool.Decides.{nat_tests}
-use Rattle.std.proofs.Math.Logic.{∥∥₁_prop}
 use Rattle.scr_io.specs.declared.lines.Piece.{Piece}
 use Rattle.scr_io.specs.declared.lines.Piece.TheVariants.{Line, Long, Past, End}
 use Rattle.scr_io.specs.Line.{next_piece}
 use Rattle.scr_text.specs.Ends.{line_with_end}
 use Rattle.scr_spec.specs.Data.{Data}
-use Rattle.scr_spec.specs.declared.state.Input.{Input}
-use Rattle.scr_spec.specs.Meaning.{Codes}
 use Rattle.scr_depend.specs.declared.order.Order.{Order}
 use Rattle.scr_depend.specs.Passes.{PassesChecks}
 use Rattle.scr_next.proofs.Runs.{one_next_state}
@@ -29,7 +26,7 @@ use Rattle.scr_history.specs.StepBack.{count_back}
 use Rattle.scr_history.specs.Replays.{GoesBack}
 use Rattle.scr_history.proofs.Moves.{back_none, back_more, back_left}
 use Rattle.scr_history.proofs.Cuts.{some_on, of_on, of_back, of_consistent, of_depth}
-use Rattle.scr_replay.specs.Replays.{Replays, closed, ReplaysKept}
+use Rattle.scr_replay.specs.Replays.{closed, ReplaysKept}
 use Rattle.scr_replay.proofs.Steps.{adds, takes, passes, refuses}
 
 -- ---- steps back

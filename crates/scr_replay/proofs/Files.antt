@@ -1,5 +1,5 @@
 -- What `replay` answers for its files.
-use Rattle.std.proofs.Common.{◌≡◌, ℕ, List, [], ◌++◌, length, Option, None, Some, refl, sym, ap, ap₂, subst, ◌∙◌}
+use Rattle.std.proofs.Common.{◌≡◌, ℕ, List, [], ◌++◌, Option, None, Some, refl, sym, ap, ap₂, subst, ◌∙◌}
 use Rattle.scr_spec.specs.Data.{Data}
 use Rattle.scr_spec.specs.Meaning.{Codes}
 use Rattle.scr_depend.specs.declared.order.Order.{Order}
@@ -19,6 +19,7 @@ use Rattle.scr_replay.specs.Replays.{Replays, ReplaysKept, ReplaysFile, ReplayAn
 use Rattle.scr_replay.specs.Laws.{OneReplay}
 use Rattle.scr_replay.proofs.Existence.{some_answer}
 use Rattle.scr_replay.proofs.Held.{held}
+use Rattle.scr_replay.proofs.Refused.{refused}
 use Rattle.scr_replay.proofs.Once.{once}
 
 -- ---- by the script
@@ -74,6 +75,7 @@ one_replay = record {
   one = λ limit held script x y i j. both_once ReplaysFile limit held script x y i j (λ spec order. file_once spec order script);
   never_none = some_answers;
   held = held;
+  refused = refused;
 }
 
 -- ---- of the command

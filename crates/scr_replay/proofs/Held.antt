@@ -1,4 +1,4 @@
--- With `Done` each state that was written is the last one of the run of the inputs that remain.
+-- With `Done` the lines of the script tell what was written.
 use Rattle.std.proofs.Common.{◌≡◌, ℕ, ◌+◌, ◌-◌, ◌≤◌, Bool, true, false, List, [], ◌∷◌, ◌++◌, length, refl, sym, ap, subst, ◌∙◌, arith}
 use Rattle.std.specs.Prelude.{min, nat_le, Option, Some, None, Ok, Err, if◌then◌else◌}
 use Rattle.std.proofs.lemmas.Bool.Decides.{nat_tests}
@@ -17,17 +17,16 @@ use Rattle.scr_script.specs.declared.fault.ScriptKind.TheVariants as kind
 use Rattle.scr_simulator.specs.Script.{Reading, read_line}
 use Rattle.scr_simulator.proofs.ScriptLines.{lines_taken}
 use Rattle.scr_job.specs.declared.status.Status.{Status}
-use Rattle.scr_job.specs.declared.status.Status.TheVariants.{Done, ScriptRefused}
+use Rattle.scr_job.specs.declared.status.Status.TheVariants.{Done}
 use Rattle.scr_job.specs.Session.{first_line, behind}
 use Rattle.scr_job.specs.Closing.{closing_text, closing_status}
-use Rattle.scr_job.proofs.ClosingLemmas.{line_there}
+use Rattle.scr_job.proofs.ClosingLemmas.{line_there, at_end, refused_done}
 use Rattle.scr_checking.specs.Checking.{Passes, finished, passed as passes_first}
-use Rattle.scr_report.specs.Runs.{state_text}
 use Rattle.scr_history.specs.StepBack.{count_back}
 use Rattle.scr_history.specs.Holds.{Holds, none as holds_none, passed as holds_passed, added as holds_added, taken as holds_taken}
 use Rattle.scr_replay.specs.Turns.{Turn, stay, add, take, refuse, turn_by}
 use Rattle.scr_replay.specs.Replays.{Replays, closed, faulty, passed, added, taken, ReplaysFile, ReplayAnswers}
-use Rattle.scr_replay.specs.Tells.{TellsLines, none, silent, told, TellsRuns}
+use Rattle.scr_replay.specs.Tells.{Remaining, TellsLines, none, silent, forward, back, TellsRuns}
 
 -- ---- what a line is, by what it asks for
 
@@ -49,19 +48,19 @@ back_take : (t : Bool) (n m : ℕ) → asks_back t n ≡ take m → (t ≡ true)
 back_take true n m h = (refl, cc)
 back_take false n m h = absurd (refuse_take m h)
 
-stays : (c : Option ℕ) (depth : ℕ) (r : Reading) → turn_by c depth r ≡ stay → r ≡ Ok None
+pub stays : (c : Option ℕ) (depth : ℕ) (r : Reading) → turn_by c depth r ≡ stay → r ≡ Ok None
 stays (Some n) depth r h = absurd (back_stay (nat_le n depth) n h)
 stays None depth (Ok None) h = refl
 stays None depth (Ok (Some i)) h = cc
 stays None depth (Err f) h = cc
 
-adds : (c : Option ℕ) (depth : ℕ) (r : Reading) (input : Input) → turn_by c depth r ≡ add input → r ≡ Ok (Some input)
+pub adds : (c : Option ℕ) (depth : ℕ) (r : Reading) (input : Input) → turn_by c depth r ≡ add input → r ≡ Ok (Some input)
 adds (Some n) depth r input h = absurd (back_add (nat_le n depth) n input h)
 adds None depth (Ok None) input h = cc
 adds None depth (Ok (Some i)) input h = let same : i ≡ input = cc in ap (λ j. Ok (Some j)) same
 adds None depth (Err f) input h = cc
 
-takes : (c : Option ℕ) (depth : ℕ) (r : Reading) (m : ℕ) → turn_by c depth r ≡ take m → (c ≡ Some m) × (m ≤ depth)
+pub takes : (c : Option ℕ) (depth : ℕ) (r : Reading) (m : ℕ) → turn_by c depth r ≡ take m → (c ≡ Some m) × (m ≤ depth)
 takes (Some n) depth r m h =
     let both = back_take (nat_le n depth) n m h in
     let within : nat_le n depth ≡ true = both.0 in
@@ -72,18 +71,6 @@ takes None depth (Ok (Some i)) m h = cc
 takes None depth (Err f) m h = cc
 
 -- ---- a rest of a script
-
-at_end : (room : ℕ) (rest : List ℕ) → next_piece room rest ≡ End → rest ≡ []
-at_end room [] h = refl
-at_end room (b ∷ bytes) h = absurd (other _ _ h)
-  where
-    other : (past long : Bool) → (if past then Past else (if long then Long else Line)) ≡ End → ⊥
-    other true long e = cc
-    other false true e = cc
-    other false false e = cc
-
-refused_done : ScriptRefused ≡ Done → ⊥
-refused_done e = cc
 
 module _ (spec : Data) (before : List (List ℕ)) (number room : ℕ) (rest bytes : List ℕ) where
   tells_end : (piece : Piece) → next_piece room rest ≡ piece → (piece ≡ Line → ⊥) → bytes ≡ closing_text number piece → closing_status piece ≡ Done → TellsLines spec before (lines rest) bytes
@@ -96,6 +83,9 @@ module _ (spec : Data) (before : List (List ℕ)) (number room : ℕ) (rest byte
   by_line : next_piece room rest ≡ Line → TellsLines spec before (first_line rest ∷ lines (behind rest)) bytes → TellsLines spec before (lines rest) bytes
   by_line next t = subst (λ ls. TellsLines spec before ls bytes) (sym (lines_taken rest (line_there room rest next))) t
 
+abbrev pub remaining : {spec : Data} {before : List (List ℕ)} (inputs : List Input) (depth : ℕ) (at : Codes) → Holds spec before inputs depth → EndsIn spec inputs at → Remaining spec before
+remaining inputs depth at holds ends = record { inputs = inputs; depth = depth; holds = holds; at = at; ends = ends }
+
 tells : (spec : Data) (before : List (List ℕ)) (inputs : List Input) (depth : ℕ) (at : Codes) (number room : ℕ) (rest bytes : List ℕ) (status : Status) → status ≡ Done
     → Holds spec before inputs depth → EndsIn spec inputs at → Replays spec inputs depth at number room rest bytes status → TellsLines spec before (lines rest) bytes
 tells spec before inputs depth at number room rest bytes status done holds ends (closed piece next other e s) = tells_end spec before number room rest bytes piece next other e (sym s ∙ done)
@@ -104,7 +94,7 @@ tells spec before inputs depth at number room rest bytes status done holds ends 
     let line = first_line rest in
     let read = stays (count_back line) depth (read_line spec at line) asked in
     by_line spec before number room rest bytes next
-    (silent holds ends read
+    (silent (remaining inputs depth at holds ends) read
     (tells spec (before ++ line ∷ []) inputs depth at (number + 1) (room - length (line_with_end rest)) (behind rest) bytes status done (holds_passed line holds ends read) ends later))
 tells spec before inputs depth at number room rest bytes status done holds ends (added input new more next asked step later e) =
     let line = first_line rest in
@@ -112,33 +102,32 @@ tells spec before inputs depth at number room rest bytes status done holds ends 
     let after = holds_added line input holds ends read in
     let on = ends_next spec inputs at input new ends step in
     by_line spec before number room rest bytes next
-    (told (state_text spec (length (inputs ++ input ∷ [])) new) more (record { inputs = inputs ++ input ∷ []; depth = min 256 (depth + 1); holds = after; at = new; ends = on; shown = refl })
+    (forward (remaining inputs depth at holds ends) input (remaining (inputs ++ input ∷ []) (min 256 (depth + 1)) new after on) more read
     (tells spec (before ++ line ∷ []) (inputs ++ input ∷ []) (min 256 (depth + 1)) new (number + 1) (room - length (line_with_end rest)) (behind rest) more status done after on later) e)
 tells spec before inputs depth at number room rest bytes status done holds ends (taken front last new more next asked is front_ends later e) =
     let line = first_line rest in
-    let back = takes (count_back line) depth (read_line spec at line) (length last) asked in
-    let after = holds_taken line front last (subst (λ is. Holds spec before is depth) is holds) back.0 back.1 in
+    let step = takes (count_back line) depth (read_line spec at line) (length last) asked in
+    let after = holds_taken line front last (subst (λ is. Holds spec before is depth) is holds) step.0 step.1 in
     by_line spec before number room rest bytes next
-    (told (state_text spec (length front) new) more (record { inputs = front; depth = depth - length last; holds = after; at = new; ends = front_ends; shown = refl })
+    (back (length last) (remaining front (depth - length last) new after front_ends) more step.0
     (tells spec (before ++ line ∷ []) front (depth - length last) new (number + 1) (room - length (line_with_end rest)) (behind rest) more status done after front_ends later) e)
 
 -- ---- files
 
-held_file : (spec : Data) (script bytes : List ℕ) (status : Status) → status ≡ Done → ReplaysFile spec (Some script) bytes status → TellsRuns spec script bytes
+held_file : (spec : Data) (script bytes : List ℕ) (status : Status) → status ≡ Done → ReplaysFile spec (Some script) bytes status → TellsRuns spec (lines script) bytes
 held_file spec script bytes status done r =
     let ends = ends_first spec r.first r.initial in
     record {
-      shown = state_text spec 0 r.first;
+      first = remaining [] 0 r.first holds_none ends;
       more = r.answers.0;
-      first = record { inputs = []; depth = 0; holds = holds_none; at = r.first; ends = ends; shown = refl };
       later = tells spec [] [] 0 r.first 1 _ script r.answers.0 status done holds_none ends r.answers.2;
       told = r.answers.1;
     }
 
 held_first : (limit : ℕ) (text script bytes : List ℕ) (status : Status) → status ≡ Done → ReplayAnswers limit (Some text) (Some script) bytes status
-    → (spec : Data) × (order : Order) × Passes limit text spec order × TellsRuns spec script bytes
+    → (spec : Data) × (order : Order) × Passes limit text spec order × TellsRuns spec (lines script) bytes
 held_first limit text script bytes status done (finished is other) = absurd (other done)
 held_first limit text script bytes status done (passes_first spec order p own) = (spec, order, p, held_file spec script bytes status done own)
 
-pub held : (limit : ℕ) (text script bytes : List ℕ) → ReplayAnswers limit (Some text) (Some script) bytes Done → (spec : Data) × (order : Order) × Passes limit text spec order × TellsRuns spec script bytes
+pub held : (limit : ℕ) (text script bytes : List ℕ) → ReplayAnswers limit (Some text) (Some script) bytes Done → (spec : Data) × (order : Order) × Passes limit text spec order × TellsRuns spec (lines script) bytes
 held limit text script bytes answers = held_first limit text script bytes Done refl answers

@@ -1,6 +1,6 @@
 -- What a line of a script does to a replay.
 use Rattle.std.proofs.Common.{◌≡◌, ℕ, ◌+◌, ◌-◌, ◌<◌, ◌≤◌, length, List, [], ◌∷◌, ◌++◌, true, false, refl, sym, ap, subst, ◌∙◌, arith}
-use Rattle.std.specs.Prelude.{min, nat_le, Option, Some, None, Ok, Err, if◌then◌else◌}
+use Rattle.std.specs.Prelude.{nat_le, Option, Some, None, Ok, Err, if◌then◌else◌}
 use Rattle.std.proofs.lemmas.Bool.Decides.{nat_tests}
 use Rattle.std.proofs.lemmas.List.{append-nil}
 use Rattle.scr_io.specs.declared.lines.Piece.TheVariants.{Line}
@@ -20,14 +20,13 @@ use Rattle.scr_report.specs.Runs.{state_text}
 use Rattle.scr_history.specs.declared.fault.ReplayFault.{ReplayFault}
 use Rattle.scr_history.specs.declared.fault.ReplayFault.TheVariants as fault
 use Rattle.scr_history.specs.Faults.{kind_of}
-use Rattle.scr_history.specs.Kept.{Kept, Shows}
+use Rattle.scr_history.specs.Kept.{Kept}
 use Rattle.scr_history.specs.StepBack.{count_back}
-use Rattle.scr_history.specs.Replays.{GoesBack, TakesInput, TakesBack, Passes, HasReplayFault, IsTooFar, HasFault}
+use Rattle.scr_history.specs.Replays.{TakesInput, TakesBack, Passes, HasReplayFault}
 use Rattle.scr_history.proofs.Lines.{on_depth, back_depth}
 use Rattle.scr_history.proofs.Plain.{plain}
-use Rattle.scr_history.proofs.Lists.{length-push}
 use Rattle.scr_history.proofs.Cuts.{shows_ends, shows_on, shows_back}
-use Rattle.scr_replay.specs.Turns.{Turn, stay, add, take, refuse, set_turn, turn_by, turn_of}
+use Rattle.scr_replay.specs.Turns.{stay, add, take, refuse, set_turn, turn_by, turn_of}
 use Rattle.scr_replay.specs.Replays.{Replays, faulty, passed, added, taken, ReplaysKept}
 
 -- ---- what a line asks for

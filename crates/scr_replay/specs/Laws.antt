@@ -1,5 +1,6 @@
 -- The law of replays.
 use Rattle.std.specs.Prelude.{◌≡◌, ℕ, List, [], Option, Some}
+use Rattle.scr_text.specs.Lines.{lines}
 use Rattle.scr_spec.specs.Data.{Data}
 use Rattle.scr_spec.specs.declared.state.Input.{Input}
 use Rattle.scr_spec.specs.Meaning.{Codes}
@@ -7,11 +8,11 @@ use Rattle.scr_depend.specs.declared.order.Order.{Order}
 use Rattle.scr_depend.specs.Passes.{PassesChecks}
 use Rattle.scr_next.specs.Runs.{EndsIn}
 use Rattle.scr_job.specs.declared.status.Status.{Status}
-use Rattle.scr_job.specs.declared.status.Status.TheVariants.{Done}
+use Rattle.scr_job.specs.declared.status.Status.TheVariants.{Done, ScriptRefused}
 use Rattle.scr_job.specs.Ends.{IsFront, HasFront}
 use Rattle.scr_checking.specs.Checking.{Passes}
 use Rattle.scr_replay.specs.Replays.{Replays, ReplaysFile, ReplayAnswers}
-use Rattle.scr_replay.specs.Tells.{TellsRuns}
+use Rattle.scr_replay.specs.Tells.{TellsRuns, TellsToFault}
 
 pub record OneReplay : Type 0 where
   -- from a state of a run on, a rest of a script has one answer
@@ -24,5 +25,8 @@ pub record OneReplay : Type 0 where
   -- files have one answer of `replay`, and never none
   pub one : (limit : ℕ) (held script : Option (List ℕ)) (x y : List ℕ) (i j : Status) → ReplayAnswers limit held script x i → ReplayAnswers limit held script y j → (x ≡ y) × (i ≡ j)
   pub never_none : (limit : ℕ) (held script : Option (List ℕ)) → IsFront (ReplayAnswers limit held script) []
-  -- with `Done` the text passes its checks, and each state that is written is the last one of the run of the inputs that remain at its line
-  pub held : (limit : ℕ) (text script bytes : List ℕ) → ReplayAnswers limit (Some text) (Some script) bytes Done → (spec : Data) × (order : Order) × Passes limit text spec order × TellsRuns spec script bytes
+  -- with `Done` the text passes its checks, and a state is written after each line that holds an input or steps back, and after no other:
+  -- the last one of the run of the inputs that remain there
+  pub held : (limit : ℕ) (text script bytes : List ℕ) → ReplayAnswers limit (Some text) (Some script) bytes Done → (spec : Data) × (order : Order) × Passes limit text spec order × TellsRuns spec (lines script) bytes
+  -- with `ScriptRefused` it passes them too, the same is written up to the first line that is refused, and the line on its fault is the last one
+  pub refused : (limit : ℕ) (text script bytes : List ℕ) → ReplayAnswers limit (Some text) (Some script) bytes ScriptRefused → (spec : Data) × (order : Order) × Passes limit text spec order × TellsToFault spec script bytes

@@ -18,6 +18,7 @@ use Rattle.scr_simulate.specs.Laws.{OneSimulation}
 use Rattle.scr_simulate.proofs.Existence.{some_answer}
 use Rattle.scr_simulate.proofs.Once.{once}
 use Rattle.scr_simulate.proofs.Run.{run}
+use Rattle.scr_simulate.proofs.Front.{front}
 
 -- ---- by the script
 
@@ -59,6 +60,7 @@ one_simulation = record {
   one = λ limit held script x y i j. both_once SimulatesFile limit held script x y i j (λ spec order. file_once spec order script);
   never_none = some_answers;
   run = run;
+  front = front;
 }
 
 -- ---- of the command

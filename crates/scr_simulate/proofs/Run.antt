@@ -1,6 +1,5 @@
 -- With `Done` the states of the run of the script's inputs were written.
-use Rattle.std.proofs.Common.{◌≡◌, ℕ, ◌+◌, ◌-◌, Bool, true, false, List, [], ◌∷◌, ◌++◌, length, Some, refl, sym, ap, subst, ◌∙◌}
-use Rattle.std.specs.Prelude.{if◌then◌else◌}
+use Rattle.std.proofs.Common.{◌≡◌, ℕ, ◌+◌, ◌-◌, List, [], ◌∷◌, ◌++◌, length, Some, refl, sym, ap, subst, ◌∙◌}
 use Rattle.scr_io.specs.declared.lines.Piece.{Piece}
 use Rattle.scr_io.specs.declared.lines.Piece.TheVariants.{Line, Long, Past, End}
 use Rattle.scr_io.specs.Line.{next_piece}
@@ -15,10 +14,10 @@ use Rattle.scr_simulator.specs.Through.{GoesThrough}
 use Rattle.scr_simulator.proofs.ScriptLines.{lines_taken}
 use Rattle.scr_simulator.proofs.Whole.{one_script}
 use Rattle.scr_job.specs.declared.status.Status.{Status}
-use Rattle.scr_job.specs.declared.status.Status.TheVariants.{Done, ScriptRefused}
+use Rattle.scr_job.specs.declared.status.Status.TheVariants.{Done}
 use Rattle.scr_job.specs.Session.{behind}
 use Rattle.scr_job.specs.Closing.{closing_text, closing_status}
-use Rattle.scr_job.proofs.ClosingLemmas.{line_there}
+use Rattle.scr_job.proofs.ClosingLemmas.{line_there, at_end, refused_done}
 use Rattle.scr_checking.specs.Checking.{Passes, finished, passed as passes_first}
 use Rattle.scr_report.specs.Runs.{state_text}
 use Rattle.scr_simulate.specs.Simulates.{Simulates, closed, faulty, passed, taken, SimulatesFile, SimulateAnswers}
@@ -30,18 +29,6 @@ record TellsRest (spec : Data) (at : Codes) (count number : ℕ) (rest bytes : L
   states : List Codes
   reads : Reads spec at number (lines rest) inputs states Whole
   told : bytes ≡ states_text spec (count + 1) states
-
-at_end : (room : ℕ) (rest : List ℕ) → next_piece room rest ≡ End → rest ≡ []
-at_end room [] h = refl
-at_end room (b ∷ bytes) h = absurd (other _ _ h)
-  where
-    other : (past long : Bool) → (if past then Past else (if long then Long else Line)) ≡ End → ⊥
-    other true long e = cc
-    other false true e = cc
-    other false false e = cc
-
-refused_done : ScriptRefused ≡ Done → ⊥
-refused_done e = cc
 
 module _ (spec : Data) (at : Codes) (count number room : ℕ) (rest bytes : List ℕ) where
   tells_end : (piece : Piece) → next_piece room rest ≡ piece → (piece ≡ Line → ⊥) → bytes ≡ closing_text number piece → closing_status piece ≡ Done → TellsRest spec at count number rest bytes

@@ -6,12 +6,12 @@ use Rattle.scr_depend.specs.declared.order.Order.{Order}
 use Rattle.scr_next.specs.Runs.{IsConsistent}
 use Rattle.scr_depend.specs.Passes.{PassesChecks}
 use Rattle.scr_job.specs.declared.status.Status.{Status}
-use Rattle.scr_job.specs.declared.status.Status.TheVariants.{Done}
+use Rattle.scr_job.specs.declared.status.Status.TheVariants.{Done, ScriptRefused}
 use Rattle.scr_job.specs.Ends.{IsFront, HasFront}
 use Rattle.scr_job.specs.Session.{IsAnswered}
 use Rattle.scr_checking.specs.Checking.{Passes}
 use Rattle.scr_simulate.specs.Simulates.{Simulates, SimulatesFile, SimulateAnswers}
-use Rattle.scr_simulate.specs.Tells.{TellsRun}
+use Rattle.scr_simulate.specs.Tells.{TellsRun, TellsFront}
 
 pub record OneSimulation : Type 0 where
   -- from a consistent state on, a rest of a script has one answer
@@ -27,3 +27,6 @@ pub record OneSimulation : Type 0 where
   pub never_none : (limit : ℕ) (held script : Option (List ℕ)) → IsFront (SimulateAnswers limit held script) []
   -- with `Done` the text passes its checks, and what is written are the states of the run of the script's inputs
   pub run : (limit : ℕ) (text script bytes : List ℕ) → SimulateAnswers limit (Some text) (Some script) bytes Done → (spec : Data) × (order : Order) × Passes limit text spec order × TellsRun spec script bytes
+  -- with `ScriptRefused` it passes as well, and the same was written of the lines in front of the one at which the script stops, and then its fault
+  pub front : (limit : ℕ) (text script bytes : List ℕ) → SimulateAnswers limit (Some text) (Some script) bytes ScriptRefused
+      → (spec : Data) × (order : Order) × Passes limit text spec order × TellsFront spec script bytes

@@ -1,5 +1,5 @@
 -- What `simulate` tells of a run.
-use Rattle.std.specs.Prelude.{◌≡◌, ℕ, List}
+use Rattle.std.specs.Prelude.{◌≡◌, ℕ, ◌+◌, ◌-◌, List, ◌++◌, length}
 use Rattle.std.specs.List.{flat_map, enumerate_from}
 use Rattle.scr_text.specs.Lines.{lines}
 use Rattle.scr_spec.specs.Data.{Data}
@@ -7,6 +7,11 @@ use Rattle.scr_spec.specs.declared.state.Input.{Input}
 use Rattle.scr_spec.specs.Meaning.{Codes}
 use Rattle.scr_next.specs.Runs.{IsRun}
 use Rattle.scr_simulator.specs.Through.{GoesThrough}
+use Rattle.scr_simulator.specs.Front.{IsFaulty, GoesThroughTo}
+use Rattle.scr_script.specs.declared.fault.ScriptKind.{ScriptKind}
+use Rattle.scr_script.specs.Faults.{script_fault}
+use Rattle.scr_job.specs.declared.walk.TheConstants.{SCRIPT_LIMIT}
+use Rattle.scr_job.specs.Stops.{StopsScript}
 use Rattle.scr_report.specs.Runs.{state_text}
 
 abbrev pub numbered_text : Data → ℕ × Codes → List ℕ
@@ -23,3 +28,16 @@ pub record TellsRun (spec : Data) (script bytes : List ℕ) : Type 0 where
   pub through : GoesThrough spec (lines script) inputs states
   pub run : IsRun spec inputs states
   pub told : bytes ≡ states_text spec 0 states
+
+-- The lines in front go through, and the script stops at the first one that is left: the bytes are the lines on all states of the
+-- run of their inputs, numbered from 0, and the line on the fault of that one.
+pub record TellsFront (spec : Data) (script bytes : List ℕ) : Type 0 where
+  pub front : List ℕ
+  pub left : List ℕ
+  pub inputs : List Input
+  pub states : List Codes
+  pub last : Codes
+  pub goes : GoesThroughTo spec script front left inputs states last
+  pub fault : ScriptKind
+  pub stops : StopsScript (IsFaulty spec last) (SCRIPT_LIMIT - length front) left fault
+  pub told : bytes ≡ states_text spec 0 states ++ script_fault (length (lines front) + 1) fault

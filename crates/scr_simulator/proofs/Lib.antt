@@ -4,3 +4,4 @@ pub mod Inputs
 pub mod Reached
 pub mod Whole
 pub mod ScriptLines
+pub mod Front

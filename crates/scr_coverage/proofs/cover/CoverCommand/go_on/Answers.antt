@@ -1,10 +1,8 @@
-use Rattle.std.proofs.Common.{◌≡◌, ℕ, List, [], Err, IfSome, sym, ap, subst}
+use Rattle.std.proofs.Common.{◌≡◌, [], Err, ap}
 use Rattle.std.proofs.lemmas.Result.{err_from_is_err_and}
-use Rattle.scr_spec.specs.Data.{Data}
 use Rattle.scr_spec.specs.Shown.{data_of}
 use Rattle.scr_depend.specs.declared.checked.Checked.{Checked}
 use Rattle.scr_job.specs.declared.status.Stop.TheVariants.{NoMemory}
-use Rattle.scr_job.specs.Ends.{Files}
 use Rattle.scr_job.specs.Session.{FileAnswers}
 use Rattle.scr_job.proofs.CommandLemmas.{answered_text}
 use Rattle.scr_job.proofs.EndsLemmas.{Stopped-early, Stopped-writing}

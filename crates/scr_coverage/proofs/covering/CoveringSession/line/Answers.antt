@@ -1,4 +1,4 @@
-use Rattle.std.proofs.Common.{◌≡◌, ◌++◌, ◌∙◌, List, map, sym, ap, subst, rules}
+use Rattle.std.proofs.Common.{◌≡◌, ◌++◌, ◌∙◌, map, sym, ap, subst, rules}
 use Rattle.scr_spec.specs.Shown.{data_of}
 use Rattle.scr_spec.specs.Domains.{IsTyped}
 use Rattle.scr_spec.specs.declared.state.State.{State}
@@ -10,7 +10,6 @@ use Rattle.scr_simulator.specs.Faults.{kind_of}
 use Rattle.scr_simulator.proofs.Reached.{reached_consistent}
 use Rattle.scr_script.specs.Faults.{script_fault}
 use Rattle.scr_job.specs.Session.{IsAnswered}
-use Rattle.scr_cover.specs.declared.count.Count.{Count}
 use Rattle.scr_cover.specs.Counts.{raised}
 use Rattle.scr_coverage.specs.Text.{tally_text}
 use Rattle.scr_coverage.specs.Covers.{CoversTally}

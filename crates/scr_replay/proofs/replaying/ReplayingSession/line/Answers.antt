@@ -1,5 +1,4 @@
 use Rattle.std.proofs.Common.{◌≡◌, ◌++◌, ap, rules}
-use Rattle.scr_spec.specs.Data.{Data}
 use Rattle.scr_spec.specs.Shown.{data_of}
 use Rattle.scr_depend.specs.declared.checked.Checked.{Checked}
 use Rattle.scr_job.specs.Session.{IsAnswered}
