@@ -1,5 +1,5 @@
 -- The judgement goes on, one changed variable and one assertion after another.
-use Rattle.std.proofs.Common.{◌≡◌, ◌≢◌, ℕ, ◌+◌, ◌<◌, ◌≤◌, Bool, true, false, List, [], ◌∷◌, ◌++◌, length, zero, suc, get_or, take, set, Option, Some, None, refl, sym, ap, subst, ◌∙◌, inl, inr, length-append, arith, IsTrue}
+use Rattle.std.proofs.Common.{◌≡◌, ℕ, ◌+◌, ◌<◌, ◌≤◌, Bool, true, false, List, [], ◌∷◌, ◌++◌, length, zero, suc, get_or, take, set, Option, Some, None, refl, sym, ap, subst, ◌∙◌, inl, inr, length-append, arith, IsTrue}
 use Rattle.std.specs.Prelude.{slice_get}
 use Rattle.std.specs.Option.{option_map_or}
 use Rattle.std.proofs.lemmas.Bool.{false≢true, cases_eq}

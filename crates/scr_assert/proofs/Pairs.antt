@@ -11,7 +11,7 @@ use Rattle.scr_spec.specs.Sound.{IsSound}
 use Rattle.scr_spec.specs.declared.table.Table.{Table}
 use Rattle.scr_spec.specs.Meaning.{Codes}
 use Rattle.scr_spec.specs.Domains.{IsTyped}
-use Rattle.scr_spec.specs.Relations.{is_dependent, is_condition, KeepsOthers, table_of}
+use Rattle.scr_spec.specs.Relations.{is_monitored, is_dependent, is_condition, KeepsOthers, table_of}
 use Rattle.dd_formula.specs.Truth.{holds_at}
 use Rattle.scr_formula.specs.Levels.{valuation_of}
 use Rattle.scr_depend.specs.Graphs.{is_among}
@@ -81,8 +81,8 @@ module _ (spec : Data) (order : List ℕ) (x : ℕ) (sound : IsSound spec) (orde
       list_all-append (holds_at (valuation_of s t)) (flat_map (need_formulas spec) order) (change_formula spec x ∷ [])
       ∙ and_from _ _ (all_met spec s t order (λ w m. (r.related w (depends w m), r.own w))) (and_from _ true ((change_tells s t x (bound_of spec x)).1 (r.differs, r.bounded)) refl)
 
-  pub full_parts : IsTyped spec s → IsTyped spec t → KeepsOthers spec x s t → IsTrue (list_all (holds_at (valuation_of s t)) (full_formulas spec order x)) → IsFullPair spec x s t
-  full_parts old new keeps h =
+  pub full_parts : IsTrue (is_monitored spec x) → IsTyped spec s → IsTyped spec t → KeepsOthers spec x s t → IsTrue (list_all (holds_at (valuation_of s t)) (full_formulas spec order x)) → IsFullPair spec x s t
+  full_parts monitored old new keeps h =
       let v = holds_at (valuation_of s t) in
       let ns = flat_map (need_formulas spec) order in
       let both = and_parts (list_all v ns) (v (change_formula spec x) && true) (sym (list_all-append v ns (change_formula spec x ∷ [])) ∙ h) in
@@ -90,6 +90,7 @@ module _ (spec : Data) (order : List ℕ) (x : ℕ) (sound : IsSound spec) (orde
       let change = (change_tells s t x (bound_of spec x)).0 last.0 in
       let met : (w : ℕ) → IsTrue (is_dependent spec w) → IsMet spec s t w = λ w d. each_met spec s t order both.0 w (there w d) in
       record {
+        monitored = monitored;
         old_typed = old;
         new_typed = new;
         differs = change.0;
@@ -101,5 +102,5 @@ module _ (spec : Data) (order : List ℕ) (x : ℕ) (sound : IsSound spec) (orde
 
 pub full_pairs_tell : FullPairsTell
 full_pairs_tell = record {
-  tell = λ spec order x sound ordered s t old new keeps. (full_parts spec order x sound ordered s t old new keeps, full_told spec order x sound ordered s t);
+  tell = λ spec order x sound ordered monitored s t old new keeps. (full_parts spec order x sound ordered s t monitored old new keeps, full_told spec order x sound ordered s t);
 }

@@ -39,6 +39,7 @@ never_false spec order lemmas limit a (passed p rest) = never_false spec order l
 
 step_pair : (spec : Data) (old : Codes) (input : Input) (new : Codes) → IsConsistent spec old → IsStep spec old input new → IsFullPair spec input.variable old new
 step_pair spec old input new c step = record {
+  monitored = step.may_come.freely.monitored;
   old_typed = c.typed;
   new_typed = step.follows.typed;
   differs = λ e. step.may_come.freely.differs (sym step.follows.taken ∙ e);

@@ -9,7 +9,7 @@ use Rattle.scr_spec.specs.Sound.{IsSound}
 use Rattle.scr_spec.specs.declared.cond.Cond.{Cond}
 use Rattle.scr_spec.specs.Meaning.{Codes, is_true}
 use Rattle.scr_spec.specs.Domains.{IsTyped}
-use Rattle.scr_spec.specs.Relations.{KeepsOthers}
+use Rattle.scr_spec.specs.Relations.{is_monitored, KeepsOthers}
 use Rattle.dd_formula.specs.declared.formula.Formula.{Formula}
 use Rattle.dd_formula.specs.declared.formula.Formula.TheVariants.{Not, And}
 use Rattle.dd_formula.specs.Truth.{holds_at}
@@ -113,14 +113,14 @@ module _ (spec : Data) (order : List ℕ) (lemmas : List Lemma) (a : Assertion) 
       ∙ and_from _ _ (broken_from spec s t a.two a.cond b.broken)
       (list_all-append v known full ∙ and_from _ _ (known_from spec s t lemmas b.known_before b.known_after) (full_told spec order x sound ordered s t b.pair))
 
-  members_parts : (s t : Codes) → IsTyped spec s → IsTyped spec t → KeepsOthers spec x s t → holds_at (valuation_of s t) (And (own ++ (known ++ full))) ≡ true → IsBrokenAt spec lemmas a x s t
-  members_parts s t old new keeps h =
+  members_parts : IsTrue (is_monitored spec x) → (s t : Codes) → IsTyped spec s → IsTyped spec t → KeepsOthers spec x s t → holds_at (valuation_of s t) (And (own ++ (known ++ full))) ≡ true → IsBrokenAt spec lemmas a x s t
+  members_parts monitored s t old new keeps h =
       let v = holds_at (valuation_of s t) in
       let both = and_parts (list_all v own) (list_all v (known ++ full)) (sym (list_all-append v own (known ++ full)) ∙ sym (holds_at-And (valuation_of s t) (own ++ (known ++ full))) ∙ h) in
       let rest = and_parts (list_all v known) (list_all v full) (sym (list_all-append v known full) ∙ both.1) in
       let lemmas_there = known_parts spec s t lemmas rest.0 in
       record {
-        pair = full_parts spec order x sound ordered s t old new keeps rest.1;
+        pair = full_parts spec order x sound ordered s t monitored old new keeps rest.1;
         known_before = lemmas_there.0;
         known_after = lemmas_there.1;
         broken = broken_parts spec s t a.two a.cond both.0;
@@ -132,8 +132,8 @@ module _ (spec : Data) (order : List ℕ) (lemmas : List Lemma) (a : Assertion) 
   pub solved : (s t : Codes) → IsBrokenAt spec lemmas a x s t → IsSolution spec test s t
   solved s t b = record { old = b.pair.old_typed; new = b.pair.new_typed; truth = kept_truth s t b.pair.others ∙ members_from s t b }
 
-  breaks : (s t : Codes) → KeepsOthers spec x s t → IsSolution spec test s t → IsBrokenAt spec lemmas a x s t
-  breaks s t keeps sol = members_parts s t sol.old sol.new keeps (sym (kept_truth s t keeps) ∙ sol.truth)
+  breaks : IsTrue (is_monitored spec x) → (s t : Codes) → KeepsOthers spec x s t → IsSolution spec test s t → IsBrokenAt spec lemmas a x s t
+  breaks monitored s t keeps sol = members_parts monitored s t sol.old sol.new keeps (sym (kept_truth s t keeps) ∙ sol.truth)
 
   pub unbroken : IsUnsatisfiable (level_domains spec) test → (s t : Codes) → IsBrokenAt spec lemmas a x s t → ⊥
   unbroken none s t b = no_solution spec test none s t (solved s t b)
@@ -141,10 +141,10 @@ module _ (spec : Data) (order : List ℕ) (lemmas : List Lemma) (a : Assertion) 
   -- ---- the least change
 
   -- at any solution the other monitored variables can be taken to keep their codes
-  breaks_mixed : (s t : Codes) → IsSolution spec test s t → IsBrokenAt spec lemmas a x s (mixed spec x s t)
-  breaks_mixed s t sol =
+  breaks_mixed : IsTrue (is_monitored spec x) → (s t : Codes) → IsSolution spec test s t → IsBrokenAt spec lemmas a x s (mixed spec x s t)
+  breaks_mixed monitored s t sol =
       let u = mixed spec x s t in
-      members_parts s u sol.old (mixed_typed spec x s t sol.old sol.new) (mixed_keeps spec x s t)
+      members_parts monitored s u sol.old (mixed_typed spec x s t sol.old sol.new) (mixed_keeps spec x s t)
       (sym (holds_at-frozen spec x (valuation_of s t) (valuation_of s u) (mixed_level spec x s t sol.new) (And (own ++ (known ++ full)))) ∙ sol.truth)
 
   -- which makes no level that occurs another
@@ -155,15 +155,15 @@ module _ (spec : Data) (order : List ℕ) (lemmas : List Lemma) (a : Assertion) 
   same_level s t new level there =
       sym (mixed_level spec x s t new level) ∙ ap (λ b. valuation_of s t (if b then level - 1 else level)) (thawed level there)
 
-  pub shows : (w : Witness) → IsWitness (level_domains spec) test w → ShowsBreak spec order lemmas a x w
-  shows w is =
+  pub shows : IsTrue (is_monitored spec x) → (w : Witness) → IsWitness (level_domains spec) test w → ShowsBreak spec order lemmas a x w
+  shows monitored w is =
       let by = shows_solution spec test w is in
       let u = mixed spec x by.old by.new in
       let same : (l : ℕ) → occurs l test ≡ true → valuation_of by.old u l ≡ valuation_of by.old by.new l = same_level by.old by.new by.solution.new in
       record {
         old = by.old;
         new = u;
-        broken = breaks_mixed by.old by.new by.solution;
+        broken = breaks_mixed monitored by.old by.new by.solution;
         least = λ s t b before. by.least s t (solved s t b) (record {
           level = before.level;
           there = before.there;
@@ -179,7 +179,7 @@ module _ (spec : Data) (order : List ℕ) (lemmas : List Lemma) (a : Assertion) 
 
 pub tests_tell : TestsTell
 tests_tell = record {
-  tell = λ spec order lemmas a x sound ordered s t keeps. (breaks spec order lemmas a x sound ordered s t keeps, solved spec order lemmas a x sound ordered s t);
+  tell = λ spec order lemmas a x sound ordered monitored s t keeps. (breaks spec order lemmas a x sound ordered monitored s t keeps, solved spec order lemmas a x sound ordered s t);
   never = λ spec order lemmas a x sound ordered. unbroken spec order lemmas a x sound ordered;
-  shows = λ spec order lemmas a x w sound ordered is. shows spec order lemmas a x sound ordered w is;
+  shows = λ spec order lemmas a x w sound ordered monitored is. shows spec order lemmas a x sound ordered monitored w is;
 }

@@ -1,9 +1,10 @@
 -- What a verdict tells of an assertion.
-use Rattle.std.proofs.Common.{◌≡◌, ℕ, List, [], ◌∷◌, ◌++◌, refl, sym, ap, subst, ◌∙◌}
-use Rattle.std.specs.List.{AllByRecursion}
+use Rattle.std.proofs.Common.{◌≡◌, ℕ, List, [], ◌∷◌, length, refl, ap, subst, IsTrue}
+use Rattle.std.specs.List.{list_all, range_with_len}
+use Rattle.std.proofs.lemmas.Bool.{and_parts}
 use Rattle.scr_spec.specs.Data.{Data}
 use Rattle.scr_spec.specs.Sound.{IsSound}
-use Rattle.scr_spec.specs.Meaning.{Codes}
+use Rattle.scr_spec.specs.Relations.{is_monitored}
 use Rattle.scr_depend.specs.declared.order.Order.{Order}
 use Rattle.scr_depend.specs.Dependencies.{graph_of}
 use Rattle.scr_depend.specs.Orders.{IsOrder}
@@ -12,6 +13,7 @@ use Rattle.scr_decide.specs.declared.witness.Witness.{Witness}
 use Rattle.scr_decide.specs.Levels.{level_domains}
 use Rattle.scr_decide.specs.Readings.{IsWitness}
 use Rattle.scr_goals.specs.Goals.{monitored_variables}
+use Rattle.scr_invariants.proofs.Testing.{all_filtered}
 use Rattle.scr_assertions.specs.declared.assertion.Assertion.{Assertion}
 use Rattle.scr_assert.specs.declared.lemma.Lemma.{Lemma}
 use Rattle.scr_assert.specs.declared.verdict.AssertVerdict.{AssertVerdict}
@@ -23,10 +25,10 @@ use Rattle.scr_assert.proofs.Sound.{assertions_hold}
 use Rattle.scr_assert.proofs.Tells.{tests_tell}
 
 module _ (spec : Data) (order : List ℕ) (lemmas : List Lemma) (limit : ℕ) (a : Assertion) (sound : IsSound spec) (ordered : IsOrder (graph_of spec) order) (w : Witness) where
-  first_break : (xs : List ℕ) (v : AssertVerdict) → AreTested spec order lemmas limit a xs v → v ≡ Unproved w → IsFirstBreak spec order lemmas a xs w
-  first_break [] v all_passed e = cc
-  first_break (x ∷ xs) v (passed h more) e =
-      let later = first_break xs v more e in
+  first_break : (xs : List ℕ) → IsTrue (list_all (is_monitored spec) xs) → (v : AssertVerdict) → AreTested spec order lemmas limit a xs v → v ≡ Unproved w → IsFirstBreak spec order lemmas a xs w
+  first_break [] are v all_passed e = cc
+  first_break (x ∷ xs) are v (passed h more) e =
+      let later = first_break xs (and_parts (is_monitored spec x) (list_all (is_monitored spec) xs) are).1 v more e in
       record {
         before = x ∷ later.before;
         changed = later.changed;
@@ -35,10 +37,11 @@ module _ (spec : Data) (order : List ℕ) (lemmas : List Lemma) (limit : ℕ) (a
         none_before = (tests_tell.never spec order lemmas a x sound ordered h.1, later.none_before);
         shows = later.shows;
       }
-  first_break (x ∷ xs) v (satisfied {w = u} h) e =
+  first_break (x ∷ xs) are v (satisfied {w = u} h) e =
       let same : u ≡ w = cc in
-      record { before = []; changed = x; behind = xs; place = refl; none_before = tt; shows = tests_tell.shows spec order lemmas a x w sound ordered (subst (λ o. IsWitness (level_domains spec) (test_formula spec order lemmas a x) o) same h.1) }
-  first_break (x ∷ xs) v (past h) e = cc
+      let monitored = (and_parts (is_monitored spec x) (list_all (is_monitored spec) xs) are).0 in
+      record { before = []; changed = x; behind = xs; place = refl; none_before = tt; shows = tests_tell.shows spec order lemmas a x w sound ordered monitored (subst (λ o. IsWitness (level_domains spec) (test_formula spec order lemmas a x) o) same h.1) }
+  first_break (x ∷ xs) are v (past h) e = cc
 
 tells : (spec : Data) (order : Order) (lemmas : List Lemma) (limit : ℕ) (a : Assertion) (v : AssertVerdict) → PassesChecks spec order → HoldInRuns spec lemmas
     → IsJudged spec order.list lemmas limit a v → IsSo spec order.list lemmas a v
@@ -48,7 +51,7 @@ tells spec order lemmas limit a (Unproved w) k hold j = by (Unproved w) j.judged
   where
     by : (v : AssertVerdict) → IsJudgedFrom spec order.list lemmas limit j.first (monitored_variables spec) a v → v ≡ Unproved w → IsFirstBreak spec order.list lemmas a (monitored_variables spec) w
     by v (false_at_first e h) same = cc
-    by v (tested holds t) same = first_break spec order.list lemmas limit a k.sound k.ordered.ordered w (monitored_variables spec) v t same
+    by v (tested holds t) same = first_break spec order.list lemmas limit a k.sound k.ordered.ordered w (monitored_variables spec) (all_filtered (is_monitored spec) (range_with_len 0 (length spec.variables))) v t same
 tells spec order lemmas limit a Undecided k hold j = tt
 
 pub verdicts_tell : VerdictsTell

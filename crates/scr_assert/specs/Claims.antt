@@ -5,7 +5,7 @@ use Rattle.scr_spec.specs.Data.{Data}
 use Rattle.scr_spec.specs.Meaning.{Codes, code_of, is_true}
 use Rattle.scr_spec.specs.Domains.{IsTyped}
 use Rattle.scr_spec.specs.Tables.{is_class_at}
-use Rattle.scr_spec.specs.Relations.{is_dependent, KeepsOthers, meets_relation}
+use Rattle.scr_spec.specs.Relations.{is_monitored, is_dependent, KeepsOthers, meets_relation}
 use Rattle.scr_spec.specs.declared.cond.Cond.{Cond}
 use Rattle.scr_formula.specs.Between.{is_true_between}
 use Rattle.scr_depend.specs.Related.{bound_of, IsBounded}
@@ -36,6 +36,7 @@ AreLemmasOver spec lemmas = IsTrue (list_all (is_lemma_over spec) lemmas)
 -- x is the one monitored variable that changes, within its bound; every dependent variable meets its relation, and every
 -- one with a condition table has its own value in the old state, too
 pub record IsFullPair (spec : Data) (x : ℕ) (old new : Codes) : Type 0 where
+  pub monitored : IsTrue (is_monitored spec x)
   pub old_typed : IsTyped spec old
   pub new_typed : IsTyped spec new
   pub differs : code_of new x ≢ code_of old x

@@ -5,7 +5,7 @@ use Rattle.dd_formula.specs.Truth.{holds_at}
 use Rattle.scr_spec.specs.Data.{Data}
 use Rattle.scr_spec.specs.Meaning.{Codes, is_true}
 use Rattle.scr_spec.specs.Domains.{IsTyped}
-use Rattle.scr_spec.specs.Relations.{KeepsOthers}
+use Rattle.scr_spec.specs.Relations.{is_monitored, KeepsOthers}
 use Rattle.scr_spec.specs.Sound.{IsSound}
 use Rattle.scr_spec.specs.declared.cond.Cond.{Cond}
 use Rattle.scr_spec.specs.declared.state.Input.{Input}
@@ -80,10 +80,11 @@ pub record OneJudgement : Type 0 where
 
 -- ---- tests
 
--- the formulas of a full pair are all true exactly there, among typed pairs at which the monitored variables other than x
--- keep their codes
+-- the formulas of a full pair in which the monitored variable x changes are all true exactly there, among typed pairs at
+-- which the other monitored variables keep their codes
 pub record FullPairsTell : Type 0 where
-  pub tell : (spec : Data) (order : List ℕ) (x : ℕ) → IsSound spec → IsOrder (graph_of spec) order → (s t : Codes) → IsTyped spec s → IsTyped spec t → KeepsOthers spec x s t
+  pub tell : (spec : Data) (order : List ℕ) (x : ℕ) → IsSound spec → IsOrder (graph_of spec) order → IsTrue (is_monitored spec x) → (s t : Codes) → IsTyped spec s → IsTyped spec t
+      → KeepsOthers spec x s t
       → IsTrue (list_all (holds_at (valuation_of s t)) (full_formulas spec order x)) ↔ IsFullPair spec x s t
 
 -- the witness shows the least codes of a change that breaks the assertion
@@ -94,14 +95,16 @@ pub record ShowsBreak (spec : Data) (order : List ℕ) (lemmas : List Lemma) (a 
   pub least : (s t : Codes) → IsBrokenAt spec lemmas a x s t → IsPairBefore (test_formula spec order lemmas a x) s t old new → ⊥
   pub shown : w.readings ≡ map (pair_reading old new) (filter (λ level. occurs level (test_formula spec order lemmas a x)) (range_with_len 0 (2 * length spec.variables)))
 
--- the formula of a test is true exactly at the changes that break the assertion, among pairs at which the monitored
--- variables other than x keep their codes; it is never true exactly where there is none
+-- the formula of a test in which the monitored variable x changes is true exactly at the changes that break the assertion,
+-- among pairs at which the other monitored variables keep their codes; where it is never true, no change of x breaks the
+-- assertion
 pub record TestsTell : Type 0 where
-  pub tell : (spec : Data) (order : List ℕ) (lemmas : List Lemma) (a : Assertion) (x : ℕ) → IsSound spec → IsOrder (graph_of spec) order → (s t : Codes) → KeepsOthers spec x s t
+  pub tell : (spec : Data) (order : List ℕ) (lemmas : List Lemma) (a : Assertion) (x : ℕ) → IsSound spec → IsOrder (graph_of spec) order → IsTrue (is_monitored spec x) → (s t : Codes)
+      → KeepsOthers spec x s t
       → IsSolution spec (test_formula spec order lemmas a x) s t ↔ IsBrokenAt spec lemmas a x s t
   pub never : (spec : Data) (order : List ℕ) (lemmas : List Lemma) (a : Assertion) (x : ℕ) → IsSound spec → IsOrder (graph_of spec) order
       → IsUnsatisfiable (level_domains spec) (test_formula spec order lemmas a x) → (s t : Codes) → IsBrokenAt spec lemmas a x s t → ⊥
-  pub shows : (spec : Data) (order : List ℕ) (lemmas : List Lemma) (a : Assertion) (x : ℕ) (w : Witness) → IsSound spec → IsOrder (graph_of spec) order
+  pub shows : (spec : Data) (order : List ℕ) (lemmas : List Lemma) (a : Assertion) (x : ℕ) (w : Witness) → IsSound spec → IsOrder (graph_of spec) order → IsTrue (is_monitored spec x)
       → IsWitness (level_domains spec) (test_formula spec order lemmas a x) w → ShowsBreak spec order lemmas a x w
 
 -- ---- verdicts

@@ -101,7 +101,7 @@ module _ (limit : ℕ) (spec : Data) (order : Order) (k : PassesChecks spec orde
       let each = judged_by assertions vs j in
       record { one_each = each.one_each; each = λ i a v e g. verdicts_tell.tell spec order j.lemmas limit a v k holds (each.each i a v e g) }
 
-  tells_each : (text bytes : List ℕ) (status : Status) (assertions : List Assertion) → AssertionsOf text spec assertions → AssertsEach limit spec assertions bytes status → TellsVerdicts spec text bytes status
+  tells_each : (text bytes : List ℕ) (status : Status) (assertions : List Assertion) → AssertionsOf text spec assertions → AssertsEach limit spec assertions bytes status → TellsVerdicts limit spec text bytes status
   tells_each text bytes status assertions makes a = record {
     assertions = assertions;
     spells = makes;
@@ -111,26 +111,27 @@ module _ (limit : ℕ) (spec : Data) (order : Order) (k : PassesChecks spec orde
     order = order.list;
     ordered = k.ordered.ordered;
     lemmas = a.judges.lemmas;
+    derived = derived_by assertions a.verdicts a.judges;
     granted = derived_lemmas.hold spec order limit a.judges.lemmas k (derived_by assertions a.verdicts a.judges);
     so = so_of assertions a.verdicts a.judges;
   }
 
-  tells_text : (text bytes : List ℕ) (status : Status) → AssertsText limit spec text bytes status → TellsAssertions spec text bytes status
+  tells_text : (text bytes : List ℕ) (status : Status) → AssertsText limit spec text bytes status → TellsAssertions limit spec text bytes status
   tells_text text bytes status (judged assertions makes a) = inl (tells_each text bytes status assertions makes a)
   tells_text text bytes status (refused r e) = inr (r, e)
 
 -- with Done each assertion is proved
-proved_each : (spec : Data) (text bytes : List ℕ) → TellsVerdicts spec text bytes Done → AreProved spec text
-proved_each spec text bytes t = record { assertions = t.assertions; spells = t.spells; each = each }
+proved_each : (limit : ℕ) (spec : Data) (text bytes : List ℕ) → TellsVerdicts limit spec text bytes Done → AreProved spec text
+proved_each limit spec text bytes t = record { assertions = t.assertions; spells = t.spells; each = each }
   where
     each : (i : ℕ) (a : Assertion) → slice_get t.assertions i ≡ Some a → (inputs : List Input) (states : List Codes) → IsRun spec inputs states → IsTrueAlong spec a.two a.cond states
     each i a there =
         let v = verdict_at t.assertions t.verdicts i a t.so.one_each there in
         subst (IsSo spec t.order t.lemmas a) (all_yes t.verdicts t.ending i v.0 v.1) (t.so.each i a v.0 there v.1)
 
-proved_by : (spec : Data) (text bytes : List ℕ) → TellsAssertions spec text bytes Done → AreProved spec text
-proved_by spec text bytes (inl t) = proved_each spec text bytes t
-proved_by spec text bytes (inr r) = absurd (other r.1)
+proved_by : (limit : ℕ) (spec : Data) (text bytes : List ℕ) → TellsAssertions limit spec text bytes Done → AreProved spec text
+proved_by limit spec text bytes (inl t) = proved_each limit spec text bytes t
+proved_by limit spec text bytes (inr r) = absurd (other r.1)
   where
     other : Done ≡ AssertRefused → ⊥
     other e = cc
@@ -148,7 +149,7 @@ some_answers limit held second =
     (λ text. first_some (λ spec. AssertsFile limit spec second) limit text (λ spec order p. second_some limit spec order (passes_checks limit text spec order p) second))
 
 tells : (limit : ℕ) (text second bytes : List ℕ) (status : Status) (spec : Data) (order : Order) → Passes limit text spec order
-    → AssertAnswers limit (Some text) (Some second) bytes status → TellsAssertions spec second bytes status
+    → AssertAnswers limit (Some text) (Some second) bytes status → TellsAssertions limit spec second bytes status
 tells limit text second bytes status spec order p (finished report other) =
     absurd (other (sym (one_checking.once limit text (passed_text spec order.list) bytes Done status (one_checking.done limit text spec order p) report).1))
 tells limit text second bytes status spec order p (passed spelt later q own) =
@@ -160,7 +161,7 @@ done_by : (limit : ℕ) (text second bytes : List ℕ) (status : Status) → Ass
 done_by limit text second bytes status (finished report other) done = absurd (other done)
 done_by limit text second bytes status (passed spec order p own) done =
     let told = tells_text limit spec order (passes_checks limit text spec order p) second bytes status own in
-    (spec, order, p, proved_by spec second bytes (subst (TellsAssertions spec second bytes) done told))
+    (spec, order, p, proved_by limit spec second bytes (subst (TellsAssertions limit spec second bytes) done told))
 
 pub one_assertion : OneAssertion
 one_assertion = record {

@@ -11,6 +11,7 @@ use Rattle.scr_assertions.specs.declared.assertion.Assertion.{Assertion}
 use Rattle.scr_assertions.specs.Texts.{AssertionsOf}
 use Rattle.scr_assert.specs.declared.lemma.Lemma.{Lemma}
 use Rattle.scr_assert.specs.declared.verdict.AssertVerdict.{AssertVerdict}
+use Rattle.scr_assert.specs.Derived.{AreDerivedLemmas}
 use Rattle.scr_assert.specs.Judged.{HasEach}
 use Rattle.scr_assert.specs.Laws.{HoldInRuns, IsTrueAlong, IsSo}
 use Rattle.scr_job.specs.declared.status.Status.{Status}
@@ -22,9 +23,9 @@ use Rattle.scr_asserting.specs.Asserts.{IsRefusedWith, verdicts_status, AssertAn
 
 -- ---- what is written
 
--- a line on each assertion that the text makes, and each verdict tells what is so; all that is taken for granted holds in every state
--- of every run
-pub record TellsVerdicts (spec : Data) (text bytes : List ℕ) (status : Status) : Type 0 where
+-- a line on each assertion that the text makes, and each verdict tells what is so; what is taken for granted is all that is derived
+-- within the limit, and holds in every state of every run
+pub record TellsVerdicts (limit : ℕ) (spec : Data) (text bytes : List ℕ) (status : Status) : Type 0 where
   pub assertions : List Assertion
   pub spells : AssertionsOf text spec assertions
   pub verdicts : List AssertVerdict
@@ -33,6 +34,7 @@ pub record TellsVerdicts (spec : Data) (text bytes : List ℕ) (status : Status)
   pub order : List ℕ
   pub ordered : IsOrder (graph_of spec) order
   pub lemmas : List Lemma
+  pub derived : AreDerivedLemmas spec order limit lemmas
   pub granted : HoldInRuns spec lemmas
   pub so : HasEach (IsSo spec order lemmas) assertions verdicts
 
@@ -40,8 +42,8 @@ pub record TellsVerdicts (spec : Data) (text bytes : List ℕ) (status : Status)
 abbrev pub TellsRefusal : Data → List ℕ → List ℕ → Status → Type 0
 TellsRefusal spec text bytes status = IsRefusedWith text spec bytes × (status ≡ AssertRefused)
 
-abbrev pub TellsAssertions : Data → List ℕ → List ℕ → Status → Type 0
-TellsAssertions spec text bytes status = TellsVerdicts spec text bytes status ⊎ TellsRefusal spec text bytes status
+abbrev pub TellsAssertions : ℕ → Data → List ℕ → List ℕ → Status → Type 0
+TellsAssertions limit spec text bytes status = TellsVerdicts limit spec text bytes status ⊎ TellsRefusal spec text bytes status
 
 -- each assertion that the text makes is proved: it is true in every state, or between every two neighbouring states, of every run
 pub record AreProved (spec : Data) (text : List ℕ) : Type 0 where
@@ -55,7 +57,7 @@ pub record OneAssertion : Type 0 where
   pub some : (limit : ℕ) (held second : Option (List ℕ)) → IsFront (AssertAnswers limit held second) []
   -- for a text that passes its checks each line is so
   pub tells : (limit : ℕ) (text second bytes : List ℕ) (status : Status) (spec : Data) (order : Order) → Passes limit text spec order
-      → AssertAnswers limit (Some text) (Some second) bytes status → TellsAssertions spec second bytes status
+      → AssertAnswers limit (Some text) (Some second) bytes status → TellsAssertions limit spec second bytes status
   -- with `Done` the text passes, and each assertion is proved
   pub done : (limit : ℕ) (text second bytes : List ℕ) → AssertAnswers limit (Some text) (Some second) bytes Done
       → (spec : Data) × (order : Order) × Passes limit text spec order × AreProved spec second

@@ -39,11 +39,12 @@ pub record PrintedHold : Type 0 where
       → files (word_at 1 words) ≡ Some text → Spells text spec → Answers words files bytes Done → PrintsWhatHolds spec bytes
 
 -- an answer to the words of `assert` on a text that passes its checks: the line on why the second text spells no assertions, or a
--- line on each of them, and each line is so; with `Done` the first text passes, and each assertion is proved
+-- line on each of them, and each line is so, what is derived within the limit taken for granted; with `Done` the first text passes,
+-- and each assertion is proved
 pub record PrintedAsserted : Type 0 where
   pub tells : (words : List (List ℕ)) (files : Files) (limit : ℕ) (text second bytes : List ℕ) (status : Status) (spec : Data) (order : Order) → form_of words ≡ Some (Assert limit)
       → files (word_at 1 words) ≡ Some text → files (word_at 2 words) ≡ Some second → Passes limit text spec order → Answers words files bytes status
-      → TellsAssertions spec second bytes status
+      → TellsAssertions limit spec second bytes status
   pub done : (words : List (List ℕ)) (files : Files) (limit : ℕ) (text second bytes : List ℕ) → form_of words ≡ Some (Assert limit)
       → files (word_at 1 words) ≡ Some text → files (word_at 2 words) ≡ Some second → Answers words files bytes Done
       → (spec : Data) × (order : Order) × Passes limit text spec order × AreProved spec second
