@@ -22,6 +22,11 @@ apart : (limit : ℕ) (text : List ℕ) (spec : Data) (order : Order) (bytes : L
 apart limit text spec order bytes ending p report other =
     other (sym (one_checking.once limit text (passed_text spec order.list) bytes status.Done ending (one_checking.done limit text spec order p) report).1)
 
+-- what passes is answered by what the command has of its own for it
+pub first_own : (own : Own) (limit : ℕ) (text : List ℕ) (spec : Data) (order : Order) (bytes : List ℕ) (ending : Status) → Passes limit text spec order → ChecksFirst own limit text bytes ending → own spec bytes ending
+first_own own limit text spec order bytes ending p (finished report other) = absurd (apart limit text spec order bytes ending p report other)
+first_own own limit text spec order bytes ending p (passed second later q mine) = subst (λ s. own s bytes ending) (one_checking.one_spec limit text second spec later order q p) mine
+
 pub first_once : (own : Own) (limit : ℕ) (text x y : List ℕ) (i j : Status) → IsOnce own limit text → ChecksFirst own limit text x i → ChecksFirst own limit text y j → (x ≡ y) × (i ≡ j)
 first_once own limit text x y i j once (finished a other) (finished b also) = one_checking.once limit text x y i j a b
 first_once own limit text x y i j once (finished a other) (passed spec order p mine) = absurd (apart limit text spec order x i p a other)

@@ -5,3 +5,4 @@ pub mod Printed
 pub mod Endings
 pub mod Sliced
 pub mod Both
+pub mod Accepted

@@ -16,7 +16,7 @@ use Rattle.scr_cli.specs.Answers.{word_at, names_in, work_of, WorkAnswers, Answe
 use Rattle.scr_cli.specs.Holds.{PrintedRight, PrintedHold, PrintedAsserted, PrintedSlice}
 
 -- such an answer is what is derived for the text
-derives : (words : List (List ℕ)) (files : Files) (limit : ℕ) (text bytes : List ℕ) (status : Status) → form_of words ≡ Some (Invariants limit)
+pub derives : (words : List (List ℕ)) (files : Files) (limit : ℕ) (text bytes : List ℕ) (status : Status) → form_of words ≡ Some (Invariants limit)
     → files (word_at 1 words) ≡ Some text → Answers words files bytes status → DerivesText limit text bytes status
 derives words files limit text bytes status form there answer =
     let held : DerivesFile limit (files (word_at 1 words)) bytes status = subst (λ f. WorkAnswers (work_of words f) words files bytes status) form answer in

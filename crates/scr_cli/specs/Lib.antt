@@ -1,3 +1,4 @@
 pub mod Form
 pub mod Answers
 pub mod Holds
+pub mod Accepted

@@ -8,4 +8,6 @@ mod top;
 
 pub use form::Form;
 pub use scr_job::Status;
-pub use top::{one_answer, printed_asserted, printed_hold, printed_right, printed_slice, run};
+pub use top::{
+    accepted_ends, one_answer, printed_asserted, printed_hold, printed_right, printed_slice, run,
+};

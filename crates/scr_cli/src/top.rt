@@ -2,6 +2,7 @@
 ghost use Rattle.std.specs.Prelude.{◌≡◌, ◌≢◌, ◌⊎◌, None, IfOk, IfErr, IsErrOf, IsTrue, MatchResult, map, string_bytes};
 ghost use Rattle.scr_io.specs.Outside.{HasRisen};
 ghost use Rattle.scr_job.specs.Ends.{Answered, Stopped, Wrote, IsCut, Ended, is_own};
+ghost use Rattle.scr_cli.specs.Accepted.{AcceptedEnds};
 ghost use Rattle.scr_cli.specs.Form.{form_of};
 ghost use Rattle.scr_cli.specs.Holds.{PrintedRight, PrintedHold, PrintedAsserted, PrintedSlice};
 ghost use Rattle.scr_cli.specs.Answers.{Answers, OneAnswer, IsUsage, HoldsFiles, begins_none, reads_first, told_for, work_for};
@@ -196,6 +197,13 @@ pub fn run<S: Shelf, K: Sink>(alloc: Global, words: &[String], shelf: &mut S, ou
 /// Words and files have one answer, and never none.
 pub fn one_answer()
     ensures { OneAnswer }
+{}
+
+/// Words whose files are there, and whose first file is accepted, end with `Done`, or with what the second file, the
+/// names or the limit gives. So `check`, `emit`, `format` and `generate` end with `Done`, and so does `invariants` where
+/// each class is decided.
+pub fn accepted_ends()
+    ensures { AcceptedEnds }
 {}
 
 /// What `check` prints on a text is right for the one specification that the text spells: each line on a

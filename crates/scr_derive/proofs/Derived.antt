@@ -1,8 +1,8 @@
 -- What `invariants` answers.
 use Rattle.std.proofs.Common.{◌≡◌, ℕ, Bool, true, false, List, [], ◌∷◌, map, Option, Some, Result, Ok, Err, refl, sym, ap, ap₂, subst, ◌∙◌, IsTrue}
-use Rattle.std.specs.Prelude.{◌&&◌, IfOk}
+use Rattle.std.specs.Prelude.{◌&&◌, ◌||◌, if◌then◌else◌, IfOk}
 use Rattle.std.proofs.lemmas.Bool.{false≢true}
-use Rattle.std.specs.List.{list_all, AllByRecursion}
+use Rattle.std.specs.List.{list_all, list_any, AllByRecursion}
 use Rattle.scr_spec.specs.Data.{Data}
 use Rattle.scr_spec.specs.Shown.{data_of}
 use Rattle.scr_spec.specs.Meaning.{Codes}
@@ -25,7 +25,7 @@ use Rattle.scr_invariants.proofs.Testing.{classes_are}
 use Rattle.scr_invariants.proofs.Once.{one_derived}
 use Rattle.scr_invariants.proofs.Sound.{invariants_hold}
 use Rattle.scr_job.specs.declared.status.Status.{Status}
-use Rattle.scr_job.specs.declared.status.Status.TheVariants.{Done}
+use Rattle.scr_job.specs.declared.status.Status.TheVariants.{Done, Undecided}
 use Rattle.scr_job.specs.declared.whole.Loaded.{Loaded}
 use Rattle.scr_job.specs.Load.{IsLoaded}
 use Rattle.scr_job.specs.Ends.{IsFront}
@@ -35,11 +35,11 @@ use Rattle.scr_checking.specs.declared.checking.Checking.TheVariants.{Passed}
 use Rattle.scr_checking.specs.Reports.{ChecksText, passed_text}
 use Rattle.scr_checking.specs.Checking.{Passes, EndsCommand, IsChecking, finished, passed}
 use Rattle.scr_checking.proofs.Checks.{one_checking, passes_checks}
-use Rattle.scr_checking.proofs.First.{first_once, first_some}
+use Rattle.scr_checking.proofs.First.{first_own, first_once, first_some}
 use Rattle.scr_derive.specs.declared.derivation.Derivation.{Derivation}
 use Rattle.scr_derive.specs.Texts.{classes_text}
-use Rattle.scr_derive.specs.Derives.{HaveDerived, status_of, Derives, DerivesText, DerivesFile}
-use Rattle.scr_derive.specs.Laws.{HoldThroughout, PrintsWhatHolds, OneDerivation}
+use Rattle.scr_derive.specs.Derives.{HaveDerived, is_undecided, status_of, Derives, DerivesText, DerivesFile}
+use Rattle.scr_derive.specs.Laws.{HoldThroughout, PrintsWhatHolds, IsDecided, AreDecided, OneDerivation}
 
 -- ---- one answer
 
@@ -136,10 +136,30 @@ done_holds limit text bytes status (finished report other) done spec spelled = a
 done_holds limit text bytes status (passed second order p mine) done spec spelled =
     subst (λ s. PrintsWhatHolds s bytes) (one_reading.once text second spec p.spells spelled) (own_holds limit second order bytes status (passes_checks limit text second order p) mine)
 
+-- ---- decided classes
+
+none_undecided : (spec : Data) (order : List ℕ) (limit : ℕ) (cs : List ℕ) (ds : List Derivation) → AllByRecursion (IsDecided spec order limit) cs → HaveDerived spec order limit cs ds → list_any (λ d. is_undecided d.derived) ds ≡ false
+none_undecided spec order limit [] [] are h = refl
+none_undecided spec order limit [] (d ∷ ds) are h = absurd h
+none_undecided spec order limit (c ∷ cs) [] are h = absurd h
+none_undecided spec order limit (c ∷ cs) (d ∷ ds) are h =
+    ap₂ (λ a b. a || b) (by d.derived (subst (λ n. HasDerived spec order n limit d.derived) h.0 h.1)) (none_undecided spec order limit cs ds are.1 h.2)
+  where
+    by : (w : Derived) → HasDerived spec order c limit w → is_undecided w ≡ false
+    by (derived.All list) g = refl
+    by (derived.Undecided round candidate) g = absurd (are.0 round candidate g)
+
+text_done : (limit : ℕ) (text bytes : List ℕ) (status : Status) (spec : Data) (order : Order) → Passes limit text spec order → AreDecided spec order.list limit → DerivesText limit text bytes status → status ≡ Done
+text_done limit text bytes status spec order p are answer =
+    let a = first_own (Derives limit) limit text spec order bytes status p answer in
+    let each = by_order spec order limit (passes_checks limit text spec order p) a.order a.ordered (classes_of spec) a.list a.each in
+    a.ending ∙ ap (λ b. if b then Undecided else Done) (none_undecided spec order.list limit (classes_of spec) a.list are each)
+
 pub one_derivation : OneDerivation
 one_derivation = record {
   once = file_once;
   some = file_some;
+  decided = text_done;
   hold = text_holds;
   done = λ limit text bytes h spec spelled. done_holds limit text bytes Done h refl spec spelled;
 }

@@ -7,10 +7,11 @@ use Rattle.scr_spec.specs.declared.state.Input.{Input}
 use Rattle.scr_types.specs.Texts.{Spells}
 use Rattle.scr_depend.specs.declared.order.Order.{Order}
 use Rattle.scr_next.specs.Runs.{IsRun}
+use Rattle.scr_candidates.specs.declared.candidate.Candidate.{Candidate}
 use Rattle.scr_invariants.specs.declared.derived.Derived.{Derived}
 use Rattle.scr_invariants.specs.declared.derived.Derived.TheVariants as derived
 use Rattle.scr_invariants.specs.Holds.{holds_in}
-use Rattle.scr_invariants.specs.Derivations.{classes_of}
+use Rattle.scr_invariants.specs.Derivations.{classes_of, HasDerived}
 use Rattle.scr_job.specs.declared.status.Status.{Status}
 use Rattle.scr_job.specs.declared.status.Status.TheVariants.{Done}
 use Rattle.scr_job.specs.Ends.{IsFront}
@@ -31,6 +32,14 @@ pub record PrintsWhatHolds (spec : Data) (bytes : List ℕ) : Type 0 where
   pub printed : bytes ≡ classes_text spec list
   pub hold : (inputs : List Input) (states : List Codes) → IsRun spec inputs states → AllByRecursion (λ d. HoldThroughout spec states d.class d.derived) list
 
+-- the class is decided: no candidate of it has a test past the limit
+abbrev pub IsDecided : Data → List ℕ → ℕ → ℕ → Type 0
+IsDecided spec order limit class = (round : ℕ) (c : Candidate) → HasDerived spec order class limit (derived.Undecided round c) → ⊥
+
+-- so it is with each class of the specification
+abbrev pub AreDecided : Data → List ℕ → ℕ → Type 0
+AreDecided spec order limit = AllByRecursion (IsDecided spec order limit) (classes_of spec)
+
 pub record OneDerivation : Type 0 where
   -- a file has one answer, and never none
   pub once : (limit : ℕ) (held : Option (List ℕ)) (x y : List ℕ) (i j : Status) → DerivesFile limit held x i → DerivesFile limit held y j → (x ≡ y) × (i ≡ j)
@@ -39,3 +48,6 @@ pub record OneDerivation : Type 0 where
   pub hold : (limit : ℕ) (text bytes : List ℕ) (status : Status) (spec : Data) (order : Order) → Passes limit text spec order → DerivesText limit text bytes status → PrintsWhatHolds spec bytes
   -- and each text that is answered with `Done` passes
   pub done : (limit : ℕ) (text bytes : List ℕ) → DerivesText limit text bytes Done → (spec : Data) → Spells text spec → PrintsWhatHolds spec bytes
+  -- one that passes, and each of whose classes is decided, is answered with `Done`
+  pub decided : (limit : ℕ) (text bytes : List ℕ) (status : Status) (spec : Data) (order : Order) → Passes limit text spec order → AreDecided spec order.list limit
+      → DerivesText limit text bytes status → status ≡ Done

@@ -3,7 +3,7 @@ ghost use Rattle.scr_derive.specs.Laws.{OneDerivation};
 
 /// A file has one answer of `invariants`, and never none. For a text that passes its checks each
 /// candidate that is printed as found holds in every state of every run of the specification that the
-/// text spells.
+/// text spells. Where each class is decided it is answered with `Done`.
 pub fn one_derivation()
     ensures { OneDerivation }
 {}

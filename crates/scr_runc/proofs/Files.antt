@@ -4,10 +4,13 @@ use Rattle.std.specs.Prelude.{IfOk, true, false, ◌⊎◌}
 use Rattle.std.proofs.Math.Dec.{leb}
 use Rattle.std.proofs.lemmas.Bool.Decides.{leb_tells}
 use Rattle.c_subset.specs.declared.unit.CUnit.{CUnit}
+use Rattle.c_subset.specs.Meaning.{Objects}
 use Rattle.c_subset.specs.Runs.{initial_objects}
 use Rattle.c_machine.specs.Running.{Running}
 use Rattle.c_reader.specs.Text.{Reads, Refuses}
 use Rattle.c_reader.proofs.Outcome.{one_outcome}
+use Rattle.scr_io.specs.declared.lines.Piece.{Piece}
+use Rattle.scr_io.specs.declared.lines.Piece.TheVariants.{Line, Long, Past, End}
 use Rattle.scr_text.specs.declared.memory.NoMemory.{NoMemory}
 use Rattle.scr_job.specs.declared.status.Status.{Status}
 use Rattle.scr_job.specs.declared.status.Status.TheVariants.{ReadFault, CodeRefused}
@@ -19,13 +22,14 @@ use Rattle.scr_job.specs.declared.whole.Loaded.TheVariants.{Whole, TooLong}
 use Rattle.scr_job.specs.Command.{IsFirst}
 use Rattle.scr_job.specs.Ends.{IsFront, HasFront}
 use Rattle.scr_job.specs.Load.{IsLoaded}
+use Rattle.scr_job.specs.Closing.{closing_status}
 use Rattle.scr_job.specs.Session.{FileAnswers}
 use Rattle.scr_job.proofs.EndsLemmas.{by_file_once, by_file_some}
 use Rattle.scr_runc.specs.declared.command.TheConstants.{C_LIMIT}
 use Rattle.scr_runc.specs.Texts.{objects_text, refused_text}
-use Rattle.scr_runc.specs.Runs.{RunsCalls, RunsFile, RunsText, RunCAnswers, ReachesCalls, too_long, refused, read}
+use Rattle.scr_runc.specs.Runs.{RunsCalls, RunsFile, RunsText, RunCAnswers, ReachesCalls, closed, faulty, passed, taken, overflow, too_long, refused, read}
 use Rattle.scr_runc.specs.Firsts.{IsRefusal}
-use Rattle.scr_runc.specs.Laws.{OneAnswerOfCalls}
+use Rattle.scr_runc.specs.Laws.{IsEnding, OneAnswerOfCalls}
 use Rattle.scr_runc.proofs.Existence.{some_answer}
 use Rattle.scr_runc.proofs.Once.{once}
 
@@ -85,8 +89,32 @@ answers_once held calls x y i j a b = by_file_once (RunsText calls) held x y i j
 pub some_answers : (held calls : Option (List ℕ)) → IsFront (RunCAnswers held calls) []
 some_answers held calls = by_file_some (RunsText calls) held (each_text calls)
 
+-- ---- how calls end
+
+closed_ends : (piece : Piece) → IsEnding (closing_status piece)
+closed_ends End = inl refl
+closed_ends Past = inr (inr refl)
+closed_ends Long = inr (inr refl)
+closed_ends Line = inl refl
+
+calls_end : (unit : CUnit) (row : Objects) (count number room : ℕ) (rest bytes : List ℕ) (status : Status) → RunsCalls unit row count number room rest bytes status → IsEnding status
+calls_end unit row count number room rest bytes status (closed piece next other e s) = subst IsEnding (sym s) (closed_ends piece)
+calls_end unit row count number room rest bytes status (faulty fault next asked e s) = inr (inr s)
+calls_end unit row count number room rest bytes status (passed next asked later) = calls_end unit row count _ _ _ bytes status later
+calls_end unit row count number room rest bytes status (taken call new more next asked effect later e) = calls_end unit new _ _ _ _ more status later
+calls_end unit row count number room rest bytes status (overflow call next asked effect e s) = inr (inl s)
+
+file_ends : (unit : CUnit) (calls bytes : List ℕ) (status : Status) → RunsFile unit (Some calls) bytes status → IsEnding status
+file_ends unit calls bytes status a = calls_end unit (initial_objects unit) 0 1 SCRIPT_LIMIT calls a.0 status a.2
+
+answers_end : (text calls bytes : List ℕ) (status : Status) (unit : CUnit) → length text ≤ C_LIMIT → Reads text unit → RunCAnswers (Some text) (Some calls) bytes status → IsEnding status
+answers_end text calls bytes status unit within reads (too_long h e s) = absurd (both C_LIMIT (length text) h within)
+answers_end text calls bytes status unit within reads (refused line h r e s) = absurd (one_outcome.apart text unit line reads r)
+answers_end text calls bytes status unit within reads (read other h r a) = file_ends other calls bytes status a
+
 pub one_answer_of_calls : OneAnswerOfCalls
 one_answer_of_calls = record {
+  ends = answers_end;
   once = once;
   some = some_answer;
   file_once = file_once;

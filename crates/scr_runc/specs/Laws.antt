@@ -1,11 +1,18 @@
 -- The law of `runc`.
-use Rattle.std.specs.Prelude.{◌≡◌, ℕ, List, [], Option}
+use Rattle.std.specs.Prelude.{◌≡◌, ◌⊎◌, ◌≤◌, ℕ, List, [], length, Option, Some}
 use Rattle.c_subset.specs.declared.unit.CUnit.{CUnit}
 use Rattle.c_subset.specs.Meaning.{Objects}
+use Rattle.c_reader.specs.Text.{Reads}
 use Rattle.scr_job.specs.declared.status.Status.{Status}
+use Rattle.scr_job.specs.declared.status.Status.TheVariants.{Done, Findings, ScriptRefused}
 use Rattle.scr_job.specs.Ends.{IsFront, HasFront}
 use Rattle.scr_job.specs.Session.{IsAnswered}
+use Rattle.scr_runc.specs.declared.command.TheConstants.{C_LIMIT}
 use Rattle.scr_runc.specs.Runs.{RunsCalls, RunsFile, RunCAnswers}
+
+-- how calls of a unit end
+abbrev pub IsEnding : Status → Type 0
+IsEnding status = (status ≡ Done) ⊎ ((status ≡ Findings) ⊎ (status ≡ ScriptRefused))
 
 pub record OneAnswerOfCalls : Type 0 where
   -- from each row of objects on, a rest of a file of calls has one answer
@@ -18,3 +25,5 @@ pub record OneAnswerOfCalls : Type 0 where
   -- files have one answer of `runc`, and never none
   pub one : (held calls : Option (List ℕ)) (x y : List ℕ) (i j : Status) → RunCAnswers held calls x i → RunCAnswers held calls y j → (x ≡ y) × (i ≡ j)
   pub never_none : (held calls : Option (List ℕ)) → IsFront (RunCAnswers held calls) []
+  -- a text that is a unit, where there is a file of calls, is answered with `Done`, or with what a call that overflows or a faulty line gives
+  pub ends : (text calls bytes : List ℕ) (status : Status) (unit : CUnit) → length text ≤ C_LIMIT → Reads text unit → RunCAnswers (Some text) (Some calls) bytes status → IsEnding status
