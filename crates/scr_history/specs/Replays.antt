@@ -1,5 +1,5 @@
 -- What a line does to what a replay keeps.
-use Rattle.std.specs.Prelude.{◌≡◌, ℕ, ◌+◌, ◌<◌, List, [], ◌∷◌, ◌++◌, length, Option, Some, None, Ok, Err}
+use Rattle.std.specs.Prelude.{◌≡◌, ℕ, ◌+◌, ◌<◌, List, [], ◌∷◌, ◌++◌, length, Some, None, Ok, Err}
 use Rattle.circular_buffer.specs.Buffer.{keep_last}
 use Rattle.scr_spec.specs.Data.{Data}
 use Rattle.scr_spec.specs.declared.state.Input.{Input}

@@ -2,18 +2,13 @@
 use Rattle.std.proofs.Common.{◌≡◌, ℕ, ◌+◌, Bool, true, IsTrue, List, [], ◌∷◌, ◌++◌, refl, sym, ap, subst, ◌∙◌}
 use Rattle.std.specs.List.{list_all}
 use Rattle.std.proofs.lemmas.Bool.{and_parts}
-use Rattle.scr_spec.specs.Data.{Data}
 use Rattle.scr_spec.specs.declared.cond.Owner.{Owner}
-use Rattle.scr_spec.specs.declared.cond.Owner.TheVariants as owner
-use Rattle.scr_spec.specs.declared.spec.Shape.{Shape}
-use Rattle.scr_spec.specs.declared.spec.Kind.{Kind}
 use Rattle.scr_spec.specs.declared.spec.TypeDef.{TypeDef}
 use Rattle.scr_spec.specs.declared.spec.Variable.{Variable}
-use Rattle.scr_spec.specs.Types.{shape_labels, kind_modes}
 use Rattle.scr_names.specs.declared.meaning.Meaning.TheVariants as m
 use Rattle.scr_names.specs.Names.{Name, NameList, with_name}
 use Rattle.scr_names.specs.Declarations.{with_labels}
-use Rattle.scr_names.specs.Entries.{label_entries, entries_of_type, type_entries, constant_entries, entries_of_variable, variable_entries, entries_of, with_entries}
+use Rattle.scr_names.specs.Entries.{label_entries, entries_of_type, type_entries, entries_of_variable, variable_entries, with_entries}
 
 pub entries_append : (names es fs : NameList) → with_entries names (es ++ fs) ≡ with_entries (with_entries names es) fs
 entries_append names [] fs = refl

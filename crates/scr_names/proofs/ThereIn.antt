@@ -1,7 +1,6 @@
 -- What the names that a specification declares stand for is there.
-use Rattle.std.proofs.Common.{◌≡◌, ℕ, ◌+◌, ◌<◌, pos, Bool, true, List, [], ◌∷◌, ◌++◌, length, refl, sym, ap, subst, ◌∙◌, append_assoc, append-nil, arith}
+use Rattle.std.proofs.Common.{◌≡◌, ℕ, ◌+◌, ◌<◌, pos, Bool, true, List, [], ◌∷◌, ◌++◌, length, refl, sym, ap, subst, ◌∙◌, append_assoc, arith}
 use Rattle.std.specs.Prelude.{nat_lt}
-use Rattle.std.specs.List.{list_all}
 use Rattle.std.proofs.lemmas.Bool.{and_parts, lt-ltb}
 use Rattle.std.proofs.lemmas.List.{length-append}
 use Rattle.std.proofs.lemmas.List.Folds.{list_all-append}
@@ -17,7 +16,6 @@ use Rattle.scr_spec.proofs.Passing.{and_true}
 use Rattle.scr_reader.specs.declared.draft.DraftCond.{DraftCond}
 use Rattle.scr_reader.specs.Readable.{is_cond_spelt}
 use Rattle.scr_names.specs.declared.meaning.Meaning.{Meaning}
-use Rattle.scr_names.specs.declared.meaning.Meaning.TheVariants as m
 use Rattle.scr_names.specs.Names.{Name, NameList, with_name}
 use Rattle.scr_names.specs.Conditions.{is_narrow_cond, cond_of}
 use Rattle.scr_names.specs.Entries.{label_entries, entries_of_type, type_entries, constant_entries, entries_of_variable, variable_entries, entries_of, with_entries, known_of}
