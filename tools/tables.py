@@ -44,8 +44,11 @@ def lines_of(path):
     """The lines of a file, or of standard input for -. Comments may hold any bytes."""
     if path == "-":
         return sys.stdin.read().split("\n")
-    with open(path, encoding="utf-8", errors="replace") as text:
-        return text.read().split("\n")
+    try:
+        with open(path, encoding="utf-8", errors="replace") as text:
+            return text.read().split("\n")
+    except OSError as fault:
+        sys.exit(f"{path}: cannot be read: {fault.strerror}")
 
 
 def tables(lines):
