@@ -10,9 +10,10 @@ use Rattle.scr_spec.specs.Meaning.{Codes}
 use Rattle.scr_depend.specs.declared.order.Order.{Order}
 use Rattle.scr_script.specs.declared.fault.ScriptKind.{ScriptKind}
 use Rattle.scr_script.specs.Faults.{script_fault}
+use Rattle.scr_script.proofs.InFront.{number_put, room_put}
 use Rattle.scr_simulator.specs.Faults.{kind_of}
 use Rattle.scr_simulator.specs.Front.{IsFaulty}
-use Rattle.scr_simulator.proofs.Front.{ReadsTo, reads_none, reads_passed, reads_taken, number_put, room_put, goes_through_to}
+use Rattle.scr_simulator.proofs.Front.{ReadsTo, reads_none, reads_passed, reads_taken, goes_through_to}
 use Rattle.scr_job.specs.declared.status.Status.{Status}
 use Rattle.scr_job.specs.declared.status.Status.TheVariants.{ScriptRefused}
 use Rattle.scr_job.specs.Session.{behind}
@@ -76,7 +77,7 @@ stops_in spec first before at number room rest bytes status refused (passed next
       many = c.many;
       fault = c.fault;
       stops = subst (λ n. StopsScript (IsFaulty spec c.last) n c.left c.fault) (room_put room rest c.front) c.stops;
-      told = c.told ∙ ap (λ n. coverage_text spec first (before ++ c.states) ++ script_fault n c.fault) (number_put number rest c.front c.left some c.reads.whole);
+      told = c.told ∙ ap (λ n. coverage_text spec first (before ++ c.states) ++ script_fault n c.fault) (number_put rest c.front c.left some c.reads.whole number);
     }
 stops_in spec first before at number room rest bytes status refused (taken input new next read step later) =
     let c = stops_in spec first (before ++ new ∷ []) new (number + 1) (room - length (line_with_end rest)) (behind rest) bytes status refused later in
@@ -91,7 +92,7 @@ stops_in spec first before at number room rest bytes status refused (taken input
       many = ap suc c.many;
       fault = c.fault;
       stops = subst (λ n. StopsScript (IsFaulty spec c.last) n c.left c.fault) (room_put room rest c.front) c.stops;
-      told = c.told ∙ ap (λ n. coverage_text spec first ((before ++ new ∷ []) ++ c.states) ++ script_fault n c.fault) (number_put number rest c.front c.left some c.reads.whole)
+      told = c.told ∙ ap (λ n. coverage_text spec first ((before ++ new ∷ []) ++ c.states) ++ script_fault n c.fault) (number_put rest c.front c.left some c.reads.whole number)
           ∙ ap (λ states. coverage_text spec first states ++ script_fault (length (lines (line_with_end rest ++ c.front)) + number) c.fault) (append_assoc before (new ∷ []) c.states);
     }
 

@@ -15,7 +15,7 @@ use Rattle.scr_next.specs.Runs.{EndsIn}
 use Rattle.scr_next.proofs.Runs.{ends_first, ends_next}
 use Rattle.scr_script.specs.declared.fault.ScriptKind.TheVariants as kind
 use Rattle.scr_simulator.specs.Script.{Reading, read_line}
-use Rattle.scr_simulator.proofs.ScriptLines.{lines_taken}
+use Rattle.scr_script.proofs.InFront.{lines_taken}
 use Rattle.scr_job.specs.declared.status.Status.{Status}
 use Rattle.scr_job.specs.declared.status.Status.TheVariants.{Done}
 use Rattle.scr_job.specs.Session.{first_line, behind}

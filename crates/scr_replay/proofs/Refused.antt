@@ -1,8 +1,7 @@
 -- With `ScriptRefused` the lines in front of the one that is refused tell what was written but for the line on its fault.
-use Rattle.std.proofs.Common.{◌≡◌, ℕ, ◌+◌, ◌-◌, true, false, List, [], ◌∷◌, ◌++◌, length, drop, refl, sym, ap, subst, ◌∙◌, arith}
-use Rattle.std.specs.Prelude.{◌==◌, min, Some, if◌then◌else◌}
-use Rattle.std.specs.Io.BufRead.{take_through}
-use Rattle.std.proofs.lemmas.List.{append_assoc, append-nil, length-append}
+use Rattle.std.proofs.Common.{◌≡◌, ℕ, ◌+◌, ◌-◌, List, [], ◌∷◌, ◌++◌, length, refl, sym, ap, subst, ◌∙◌, arith}
+use Rattle.std.specs.Prelude.{min, Some}
+use Rattle.std.proofs.lemmas.List.{append_assoc, append-nil}
 use Rattle.scr_io.specs.declared.lines.Piece.{Piece}
 use Rattle.scr_io.specs.declared.lines.Piece.TheVariants.{Line, Long, Past, End}
 use Rattle.scr_io.specs.Line.{next_piece}
@@ -18,7 +17,7 @@ use Rattle.scr_script.specs.declared.fault.ScriptKind.{ScriptKind}
 use Rattle.scr_script.specs.declared.fault.ScriptKind.TheVariants as kind
 use Rattle.scr_script.specs.Faults.{script_fault}
 use Rattle.scr_simulator.specs.Script.{read_line}
-use Rattle.scr_simulator.proofs.ScriptLines.{lines_taken}
+use Rattle.scr_script.proofs.InFront.{lines_taken, parted, room_put}
 use Rattle.scr_job.specs.declared.status.Status.{Status}
 use Rattle.scr_job.specs.declared.status.Status.TheVariants.{Done, ScriptRefused}
 use Rattle.scr_job.specs.declared.walk.TheConstants.{SCRIPT_LIMIT}
@@ -52,15 +51,6 @@ record RestToFault (spec : Data) (before : List (List ℕ)) (number room : ℕ) 
   kind : ScriptKind
   refused : StopsScript (IsFaulty spec last.at last.depth) (room - length front) left kind
   told : bytes ≡ shown ++ script_fault (number + length taken_lines) kind
-
--- the first line with its end, and what stands behind it
-parted : (rest : List ℕ) → line_with_end rest ++ behind rest ≡ rest
-parted [] = refl
-parted (b ∷ bytes) =
-    elim (b == 10) as (λ t. (if t then b ∷ [] else b ∷ take_through 10 bytes) ++ drop (length (if t then b ∷ [] else b ∷ take_through 10 bytes)) (b ∷ bytes) ≡ b ∷ bytes) [
-      | true ↦ refl
-      | false ↦ ap (λ (xs : List ℕ). b ∷ xs) (parted bytes)
-    ]
 
 -- the same inputs remain after the same lines
 abbrev moved : (spec : Data) (before lines : List (List ℕ)) → before ≡ lines → Remaining spec before → Remaining spec lines
@@ -100,19 +90,18 @@ module _ (spec : Data) (before : List (List ℕ)) (number room : ℕ) (rest byte
   goes_on text more next e tell r =
       let line = first_line rest in
       let ended = line_with_end rest in
-      let there : room - length ended - length r.front ≡ room - length (ended ++ r.front) = omega (arith, length-append ended r.front) in
       let many : number + 1 + length r.taken_lines ≡ number + length (line ∷ r.taken_lines) = omega arith in
       record {
         front = ended ++ r.front;
         left = r.left;
-        rest_is = sym (parted rest) ∙ ap (λ (xs : List ℕ). ended ++ xs) r.rest_is ∙ sym (append_assoc ended r.front r.left);
+        rest_is = parted rest ∙ ap (λ (xs : List ℕ). ended ++ xs) r.rest_is ∙ sym (append_assoc ended r.front r.left);
         taken_lines = line ∷ r.taken_lines;
         lines_are = lines_taken rest (line_there room rest next) ∙ ap (λ (ls : List (List ℕ)). line ∷ ls) r.lines_are;
         shown = text ++ r.shown;
         tells = tell r.taken_lines r.shown r.tells;
         last = moved spec ((before ++ line ∷ []) ++ r.taken_lines) (before ++ line ∷ r.taken_lines) (append_assoc before (line ∷ []) r.taken_lines) r.last;
         kind = r.kind;
-        refused = subst (λ n. StopsScript (IsFaulty spec r.last.at r.last.depth) n r.left r.kind) there r.refused;
+        refused = subst (λ n. StopsScript (IsFaulty spec r.last.at r.last.depth) n r.left r.kind) (room_put room rest r.front) r.refused;
         told = e ∙ ap (λ (xs : List ℕ). text ++ xs) r.told ∙ sym (append_assoc text r.shown (script_fault (number + 1 + length r.taken_lines) r.kind))
             ∙ ap (λ n. (text ++ r.shown) ++ script_fault n r.kind) many;
       }

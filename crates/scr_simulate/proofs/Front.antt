@@ -9,9 +9,10 @@ use Rattle.scr_spec.specs.Meaning.{Codes}
 use Rattle.scr_depend.specs.declared.order.Order.{Order}
 use Rattle.scr_script.specs.declared.fault.ScriptKind.{ScriptKind}
 use Rattle.scr_script.specs.Faults.{script_fault}
+use Rattle.scr_script.proofs.InFront.{number_put, room_put}
 use Rattle.scr_simulator.specs.Faults.{kind_of}
 use Rattle.scr_simulator.specs.Front.{IsFaulty}
-use Rattle.scr_simulator.proofs.Front.{ReadsTo, reads_none, reads_passed, reads_taken, number_put, room_put, goes_through_to}
+use Rattle.scr_simulator.proofs.Front.{ReadsTo, reads_none, reads_passed, reads_taken, goes_through_to}
 use Rattle.scr_job.specs.declared.status.Status.{Status}
 use Rattle.scr_job.specs.declared.status.Status.TheVariants.{ScriptRefused}
 use Rattle.scr_job.specs.Session.{behind}
@@ -71,7 +72,7 @@ stops_in spec at count number room rest bytes status refused (passed next read l
       reads = reads_passed spec at number rest t.front t.left t.inputs t.states t.last some read t.reads;
       fault = t.fault;
       stops = subst (λ n. StopsScript (IsFaulty spec t.last) n t.left t.fault) (room_put room rest t.front) t.stops;
-      told = t.told ∙ ap (λ n. states_text spec (count + 1) t.states ++ script_fault n t.fault) (number_put number rest t.front t.left some t.reads.whole);
+      told = t.told ∙ ap (λ n. states_text spec (count + 1) t.states ++ script_fault n t.fault) (number_put rest t.front t.left some t.reads.whole number);
     }
 stops_in spec at count number room rest bytes status refused (taken input new more next read step later e) =
     let t = stops_in spec new (count + 1) (number + 1) (room - length (line_with_end rest)) (behind rest) more status refused later in
@@ -86,7 +87,7 @@ stops_in spec at count number room rest bytes status refused (taken input new mo
       fault = t.fault;
       stops = subst (λ n. StopsScript (IsFaulty spec t.last) n t.left t.fault) (room_put room rest t.front) t.stops;
       told = e ∙ ap (λ bs. state_text spec (count + 1) new ++ bs)
-          (t.told ∙ ap (λ n. states_text spec (count + 1 + 1) t.states ++ script_fault n t.fault) (number_put number rest t.front t.left some t.reads.whole))
+          (t.told ∙ ap (λ n. states_text spec (count + 1 + 1) t.states ++ script_fault n t.fault) (number_put rest t.front t.left some t.reads.whole number))
           ∙ sym (append_assoc (state_text spec (count + 1) new) (states_text spec (count + 1 + 1) t.states)
           (script_fault (length (lines (line_with_end rest ++ t.front)) + number) t.fault));
     }

@@ -11,7 +11,7 @@ use Rattle.scr_spec.specs.Meaning.{Codes}
 use Rattle.scr_depend.specs.declared.order.Order.{Order}
 use Rattle.scr_simulator.specs.Scripts.{Whole, Reads, whole, passed as reads_passed, taken as reads_taken}
 use Rattle.scr_simulator.specs.Through.{GoesThrough}
-use Rattle.scr_simulator.proofs.ScriptLines.{lines_taken}
+use Rattle.scr_script.proofs.InFront.{lines_taken}
 use Rattle.scr_simulator.proofs.Whole.{one_script}
 use Rattle.scr_job.specs.declared.status.Status.{Status}
 use Rattle.scr_job.specs.declared.status.Status.TheVariants.{Done}

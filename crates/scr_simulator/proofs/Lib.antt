@@ -3,5 +3,4 @@ pub mod Narrow
 pub mod Inputs
 pub mod Reached
 pub mod Whole
-pub mod ScriptLines
 pub mod Front
