@@ -24,7 +24,7 @@ use Rattle.scr_job.proofs.EndsLemmas.{by_file_once, by_file_some}
 use Rattle.scr_checking.specs.Checking.{Passes, ChecksFirst, finished, passed}
 use Rattle.scr_checking.specs.Reports.{passed_text}
 use Rattle.scr_checking.proofs.Checks.{one_checking, passes_checks}
-use Rattle.scr_checking.proofs.First.{first_once, first_some}
+use Rattle.scr_checking.proofs.First.{first_own, first_once, first_some}
 use Rattle.scr_assertions.specs.declared.assertion.Assertion.{Assertion}
 use Rattle.scr_assertions.specs.Texts.{AssertionsOf}
 use Rattle.scr_assertions.proofs.Readings.{one_reading}
@@ -37,8 +37,8 @@ use Rattle.scr_assert.proofs.Once.{one_judgement}
 use Rattle.scr_assert.proofs.Verdicts.{verdicts_tell}
 use Rattle.scr_asserting.specs.Texts.{verdicts_text, refused_text}
 use Rattle.scr_asserting.specs.Asserts.{verdicts_status, Judges, AssertsEach, AssertsText, judged, refused, AssertsFile, AssertAnswers}
-use Rattle.scr_asserting.specs.Laws.{TellsVerdicts, TellsAssertions, AreProved, OneAssertion}
-use Rattle.scr_asserting.proofs.Verdicts.{all_yes, verdict_at}
+use Rattle.scr_asserting.specs.Laws.{TellsVerdicts, TellsAssertions, AreProved, AreAllYes, OneAssertion}
+use Rattle.scr_asserting.proofs.Verdicts.{all_yes, yes_status, verdict_at}
 
 -- ---- over a specification that passes
 
@@ -163,12 +163,22 @@ done_by limit text second bytes status (passed spec order p own) done =
     let told = tells_text limit spec order (passes_checks limit text spec order p) second bytes status own in
     (spec, order, p, proved_by limit spec second bytes (subst (TellsAssertions limit spec second bytes) done told))
 
+yes_text : (limit : ℕ) (spec : Data) (text bytes : List ℕ) (status : Status) → AreAllYes limit spec text → AssertsText limit spec text bytes status → status ≡ Done
+yes_text limit spec text bytes status p (judged assertions makes a) = a.ending ∙ yes_status a.verdicts (p.1 assertions a.verdicts makes a.judges)
+yes_text limit spec text bytes status p (refused r e) = absurd (p.0 bytes r)
+
+yes : (limit : ℕ) (text second bytes : List ℕ) (status : Status) (spec : Data) (order : Order) → Passes limit text spec order → AreAllYes limit spec second
+    → AssertAnswers limit (Some text) (Some second) bytes status → status ≡ Done
+yes limit text second bytes status spec order p all answer =
+    yes_text limit spec second bytes status all (first_own (λ s. AssertsFile limit s (Some second)) limit text spec order bytes status p answer)
+
 pub one_assertion : OneAssertion
 one_assertion = record {
   once = answers_once;
   some = some_answers;
   tells = tells;
   done = λ limit text second bytes answer. done_by limit text second bytes Done answer refl;
+  yes = yes;
 }
 
 -- ---- of the second file

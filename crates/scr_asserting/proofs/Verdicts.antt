@@ -1,7 +1,7 @@
--- Where a run with verdicts ends with Done, each is a yes.
-use Rattle.std.proofs.Common.{◌≡◌, ℕ, zero, suc, Bool, true, false, List, [], ◌∷◌, length, Some, refl, sym, arith}
-use Rattle.std.specs.Prelude.{slice_get, if◌then◌else◌}
-use Rattle.std.specs.List.{list_any}
+-- A run with verdicts ends with Done exactly where each is a yes.
+use Rattle.std.proofs.Common.{◌≡◌, ℕ, zero, suc, Bool, true, false, List, [], ◌∷◌, length, Some, refl, sym, ap, ap₂, arith}
+use Rattle.std.specs.Prelude.{◌||◌, slice_get, if◌then◌else◌}
+use Rattle.std.specs.List.{list_any, AllByRecursion}
 use Rattle.scr_job.specs.declared.status.Status.TheVariants as status
 use Rattle.scr_assertions.specs.declared.assertion.Assertion.{Assertion}
 use Rattle.scr_assert.specs.declared.verdict.AssertVerdict.{AssertVerdict}
@@ -25,6 +25,17 @@ pub all_yes : (vs : List AssertVerdict) → status.Done ≡ verdicts_status vs �
 all_yes vs done i v e =
     let both = neither (list_any is_finding vs) (list_any is_undecided vs) (sym done) in
     each_yes vs both.0 both.1 i v e
+
+none_finding : (vs : List AssertVerdict) → AllByRecursion (λ v. v ≡ Yes) vs → list_any is_finding vs ≡ false
+none_finding [] are = refl
+none_finding (v ∷ vs) are = ap₂ (λ a b. a || b) (ap is_finding are.0) (none_finding vs are.1)
+
+none_undecided : (vs : List AssertVerdict) → AllByRecursion (λ v. v ≡ Yes) vs → list_any is_undecided vs ≡ false
+none_undecided [] are = refl
+none_undecided (v ∷ vs) are = ap₂ (λ a b. a || b) (ap is_undecided are.0) (none_undecided vs are.1)
+
+pub yes_status : (vs : List AssertVerdict) → AllByRecursion (λ v. v ≡ Yes) vs → verdicts_status vs ≡ status.Done
+yes_status vs are = ap₂ (λ f u. if f then status.Findings else (if u then status.Undecided else status.Done)) (none_finding vs are) (none_undecided vs are)
 
 -- each assertion has its verdict
 pub verdict_at : (assertions : List Assertion) (vs : List AssertVerdict) (i : ℕ) (a : Assertion) → length vs ≡ length assertions → slice_get assertions i ≡ Some a

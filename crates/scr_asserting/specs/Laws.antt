@@ -1,5 +1,6 @@
 -- The law of assertions.
 use Rattle.std.specs.Prelude.{◌≡◌, ◌⊎◌, ℕ, List, [], Option, Some, slice_get}
+use Rattle.std.specs.List.{AllByRecursion}
 use Rattle.scr_spec.specs.Data.{Data}
 use Rattle.scr_spec.specs.declared.state.Input.{Input}
 use Rattle.scr_spec.specs.Meaning.{Codes}
@@ -11,6 +12,7 @@ use Rattle.scr_assertions.specs.declared.assertion.Assertion.{Assertion}
 use Rattle.scr_assertions.specs.Texts.{AssertionsOf}
 use Rattle.scr_assert.specs.declared.lemma.Lemma.{Lemma}
 use Rattle.scr_assert.specs.declared.verdict.AssertVerdict.{AssertVerdict}
+use Rattle.scr_assert.specs.declared.verdict.AssertVerdict.TheVariants.{Yes}
 use Rattle.scr_assert.specs.Derived.{AreDerivedLemmas}
 use Rattle.scr_assert.specs.Judged.{HasEach}
 use Rattle.scr_assert.specs.Laws.{HoldInRuns, IsTrueAlong, IsSo}
@@ -19,7 +21,7 @@ use Rattle.scr_job.specs.declared.status.Status.TheVariants.{Done, AssertRefused
 use Rattle.scr_job.specs.Ends.{IsFront}
 use Rattle.scr_checking.specs.Checking.{Passes}
 use Rattle.scr_asserting.specs.Texts.{verdicts_text}
-use Rattle.scr_asserting.specs.Asserts.{IsRefusedWith, verdicts_status, AssertAnswers}
+use Rattle.scr_asserting.specs.Asserts.{IsRefusedWith, verdicts_status, Judges, AssertAnswers}
 
 -- ---- what is written
 
@@ -51,6 +53,13 @@ pub record AreProved (spec : Data) (text : List ℕ) : Type 0 where
   pub spells : AssertionsOf text spec assertions
   pub each : (i : ℕ) (a : Assertion) → slice_get assertions i ≡ Some a → (inputs : List Input) (states : List Codes) → IsRun spec inputs states → IsTrueAlong spec a.two a.cond states
 
+-- ---- where all are proved
+
+-- the text is not refused, and the verdict on each assertion that it makes is yes
+abbrev pub AreAllYes : ℕ → Data → List ℕ → Type 0
+AreAllYes limit spec text = ((line : List ℕ) → IsRefusedWith text spec line → ⊥)
+    × ((assertions : List Assertion) (verdicts : List AssertVerdict) → AssertionsOf text spec assertions → Judges limit spec assertions verdicts → AllByRecursion (λ v. v ≡ Yes) verdicts)
+
 pub record OneAssertion : Type 0 where
   -- files have one answer of `assert`, and never none
   pub once : (limit : ℕ) (held second : Option (List ℕ)) (x y : List ℕ) (i j : Status) → AssertAnswers limit held second x i → AssertAnswers limit held second y j → (x ≡ y) × (i ≡ j)
@@ -61,3 +70,6 @@ pub record OneAssertion : Type 0 where
   -- with `Done` the text passes, and each assertion is proved
   pub done : (limit : ℕ) (text second bytes : List ℕ) → AssertAnswers limit (Some text) (Some second) bytes Done
       → (spec : Data) × (order : Order) × Passes limit text spec order × AreProved spec second
+  -- and where the verdict on each is yes, the ending is `Done`
+  pub yes : (limit : ℕ) (text second bytes : List ℕ) (status : Status) (spec : Data) (order : Order) → Passes limit text spec order → AreAllYes limit spec second
+      → AssertAnswers limit (Some text) (Some second) bytes status → status ≡ Done

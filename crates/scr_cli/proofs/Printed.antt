@@ -1,10 +1,16 @@
 -- What is printed is so.
-use Rattle.std.proofs.Common.{◌≡◌, ℕ, List, Some, subst}
+use Rattle.std.proofs.Common.{◌≡◌, ◌⊎◌, ℕ, List, Some, subst, inl, inr}
+use Rattle.scr_spec.specs.Data.{Data}
+use Rattle.scr_types.specs.Texts.{Spells}
+use Rattle.scr_types.proofs.Readings.{one_reading}
 use Rattle.scr_job.specs.declared.status.Status.{Status}
 use Rattle.scr_job.specs.Ends.{Files}
 use Rattle.scr_checking.specs.Reports.{ChecksText}
+use Rattle.scr_checking.specs.Checking.{Passes, finished, passed}
+use Rattle.scr_checking.specs.Tells.{TellsRight}
 use Rattle.scr_checking.proofs.Checks.{one_checking}
 use Rattle.scr_derive.specs.Derives.{DerivesText, DerivesFile}
+use Rattle.scr_derive.specs.Laws.{PrintsWhatHolds}
 use Rattle.scr_derive.proofs.Derived.{one_derivation}
 use Rattle.scr_asserting.specs.Asserts.{AssertAnswers}
 use Rattle.scr_asserting.proofs.Files.{one_assertion}
@@ -35,10 +41,18 @@ printed_right = record {
   right = λ limit text spec order p. (one_checking.sound limit text spec order p, p.passed.ordered.ordered, one_checking.right limit text spec order p);
 }
 
+-- by whether the text passes
+either_of : (limit : ℕ) (text bytes : List ℕ) (status : Status) (spec : Data) → Spells text spec → DerivesText limit text bytes status → PrintsWhatHolds spec bytes ⊎ TellsRight spec bytes status
+either_of limit text bytes status spec spelled (finished report other) = inr (one_checking.tells limit text bytes status spec spelled report)
+either_of limit text bytes status spec spelled (passed other order p own) =
+    let passes : Passes limit text spec order = subst (λ s. Passes limit text s order) (one_reading.once text other spec p.spells spelled) p in
+    inl (one_derivation.hold limit text bytes status spec order passes (passed other order p own))
+
 pub printed_hold : PrintedHold
 printed_hold = record {
   hold = λ words files limit text bytes status spec order form there passes answer. one_derivation.hold limit text bytes status spec order passes (derives words files limit text bytes status form there answer);
   done = λ words files limit text bytes spec form there spelled answer. one_derivation.done limit text bytes (derives words files limit text bytes _ form there answer) spec spelled;
+  either = λ words files limit text bytes status spec form there spelled answer. either_of limit text bytes status spec spelled (derives words files limit text bytes status form there answer);
 }
 
 asserts : (words : List (List ℕ)) (files : Files) (limit : ℕ) (text second bytes : List ℕ) (status : Status) → form_of words ≡ Some (Assert limit)

@@ -1,18 +1,28 @@
--- How words end whose files are there, and whose first file is accepted.
-use Rattle.std.specs.Prelude.{◌≡◌, ⊤, ℕ, Bool, true, false, List, Option, Some, IsTrue, IsSome}
+-- How words end whose files are there and accepted.
+use Rattle.std.specs.Prelude.{◌≡◌, ⊤, ℕ, Bool, true, false, List, Option, None, Some, IsTrue, IsSome}
 use Rattle.scr_spec.specs.Data.{Data}
 use Rattle.scr_types.specs.Texts.{Spells}
 use Rattle.scr_depend.specs.declared.order.Order.{Order}
+use Rattle.scr_generate.specs.Chain.{chain_text}
+use Rattle.dd_store.specs.declared.store.TheConstants.{NODE_LIMIT}
 use Rattle.scr_job.specs.declared.status.Status.{Status}
-use Rattle.scr_job.specs.declared.status.Status.TheVariants.{Done, Findings, Undecided, ScriptRefused, AssertRefused, NameRefused}
+use Rattle.scr_job.specs.declared.status.Status.TheVariants.{Done, Findings, SpecRefused, ScriptRefused, Undecided, AssertRefused, NameRefused}
 use Rattle.scr_job.specs.Ends.{Files}
+use Rattle.scr_job.specs.Stops.{StopsNowhere}
 use Rattle.scr_checking.specs.Checking.{Passes, ReachesScript}
+use Rattle.scr_simulate.specs.Tells.{TellsFront}
+use Rattle.scr_coverage.specs.Tells.{CountsFront}
+use Rattle.scr_replay.specs.Tells.{TellsToFault}
 use Rattle.scr_derive.specs.Laws.{AreDecided}
 use Rattle.scr_runc.specs.Runs.{ReachesCalls}
+use Rattle.scr_runc.specs.Tells.{AreMade}
+use Rattle.scr_asserting.specs.Laws.{AreAllYes}
+use Rattle.scr_slicing.specs.Names.{first_unknown}
+use Rattle.scr_large.specs.Laws.{IsPhaseDecided, NoneFails}
 use Rattle.scr_cli.specs.declared.form.Form.{Form}
 use Rattle.scr_cli.specs.declared.form.Form.TheVariants.{Check, Simulate, Invariants, Emit, Format, RunC, Generate, Large, Cover, Replay, Assert, Slice}
 use Rattle.scr_cli.specs.Form.{form_of}
-use Rattle.scr_cli.specs.Answers.{word_at, Answers}
+use Rattle.scr_cli.specs.Answers.{word_at, names_in, Answers}
 
 -- ---- accepted files
 
@@ -39,17 +49,52 @@ AreAccepted (Replay limit) words files = BothAreThere limit words files
 AreAccepted (Assert limit) words files = BothAreThere limit words files
 AreAccepted (Slice names limit) words files = ReachesScript limit (files (word_at 1 words))
 
+-- ---- files without a fault
+
+-- the file is there, and this is so of its text
+abbrev pub IsThereWith : (List ℕ → Type 0) → Option (List ℕ) → Type 0
+IsThereWith is None = ⊥
+IsThereWith is (Some text) = is text
+
+-- the text passes its checks, and this is so of the specification and its order
+abbrev pub PassesWith : ℕ → (Data → Order → Type 0) → List ℕ → Type 0
+PassesWith limit is text = (spec : Data) × (order : Order) × Passes limit text spec order × is spec order
+
+-- both are there, and the script stops nowhere
+abbrev pub GoThrough : ℕ → (Data → List ℕ → List ℕ → Type 0) → List (List ℕ) → Files → Type 0
+GoThrough limit tells words files =
+    IsThereWith (PassesWith limit (λ spec order. IsThereWith (λ script. StopsNowhere (tells spec script)) (files (word_at 2 words)))) (files (word_at 1 words))
+
+-- The files are there. The first one is accepted, each mode class is decided where they are derived, no line of a script or of calls
+-- is faulty or past the limit, no call overflows, each assertion is proved, and each name is a variable's.
+abbrev pub AreFaultless : Form → List (List ℕ) → Files → Type 0
+AreFaultless (Check limit) words files = ReachesScript limit (files (word_at 1 words))
+AreFaultless (Simulate limit) words files = GoThrough limit TellsFront words files
+AreFaultless (Invariants limit) words files = IsThereWith (PassesWith limit (λ spec order. AreDecided spec order.list limit)) (files (word_at 1 words))
+AreFaultless (Emit limit) words files = ReachesScript limit (files (word_at 1 words))
+AreFaultless Format words files = IsSpelled (files (word_at 1 words))
+AreFaultless RunC words files = IsThereWith (λ text. IsThereWith (AreMade text) (files (word_at 2 words))) (files (word_at 1 words))
+AreFaultless (Generate last) words files = ⊤
+AreFaultless (Large last) words files = PassesWith NODE_LIMIT (λ spec order. IsPhaseDecided spec order.list × NoneFails spec) (chain_text last)
+AreFaultless (Cover limit) words files = GoThrough limit CountsFront words files
+AreFaultless (Replay limit) words files = GoThrough limit TellsToFault words files
+AreFaultless (Assert limit) words files = IsThereWith (PassesWith limit (λ spec order. IsThereWith (AreAllYes limit spec) (files (word_at 2 words)))) (files (word_at 1 words))
+AreFaultless (Slice names limit) words files = IsThereWith (PassesWith limit (λ spec order. first_unknown spec (names_in names words) ≡ None)) (files (word_at 1 words))
+
 -- ---- endings
 
--- with what else than `Done` such words may end: what their second file, their names or the limit on the tests gives; `large` checks
--- a text of its own
+-- with what else than `Done` such words may end: what their second file, their names or the limit on the tests gives, and `large` with
+-- what it finds in a text of its own
 abbrev pub may_end : Form → Status → Bool
 may_end form Done = true
 may_end (Simulate limit) ScriptRefused = true
 may_end (Invariants limit) Undecided = true
 may_end RunC Findings = true
 may_end RunC ScriptRefused = true
-may_end (Large last) status = true
+may_end (Large last) Findings = true
+may_end (Large last) SpecRefused = true
+may_end (Large last) ScriptRefused = true
+may_end (Large last) Undecided = true
 may_end (Cover limit) ScriptRefused = true
 may_end (Replay limit) ScriptRefused = true
 may_end (Assert limit) Findings = true
@@ -58,10 +103,10 @@ may_end (Assert limit) AssertRefused = true
 may_end (Slice names limit) NameRefused = true
 may_end form status = false
 
--- Accepted files are answered with one of these, so `check`, `emit`, `format` and `generate` with `Done`, and so is `invariants`
--- where each class is decided.
+-- Accepted files are answered with one of these, so `check`, `emit` and `format` with `Done`, and so are all words in whose files is no
+-- fault.
 pub record AcceptedEnds : Type 0 where
   pub ends : (words : List (List ℕ)) (files : Files) (form : Form) (bytes : List ℕ) (status : Status) → form_of words ≡ Some form → AreAccepted form words files
       → Answers words files bytes status → IsTrue (may_end form status)
-  pub decided : (words : List (List ℕ)) (files : Files) (limit : ℕ) (text bytes : List ℕ) (status : Status) (spec : Data) (order : Order) → form_of words ≡ Some (Invariants limit)
-      → files (word_at 1 words) ≡ Some text → Passes limit text spec order → AreDecided spec order.list limit → Answers words files bytes status → status ≡ Done
+  pub done : (words : List (List ℕ)) (files : Files) (form : Form) (bytes : List ℕ) (status : Status) → form_of words ≡ Some form → AreFaultless form words files
+      → Answers words files bytes status → status ≡ Done

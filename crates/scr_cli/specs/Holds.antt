@@ -1,5 +1,5 @@
 -- What is printed is so.
-use Rattle.std.specs.Prelude.{◌≡◌, ℕ, List, Some}
+use Rattle.std.specs.Prelude.{◌≡◌, ◌⊎◌, ℕ, List, Some}
 use Rattle.scr_spec.specs.Data.{Data}
 use Rattle.scr_spec.specs.Sound.{IsSound}
 use Rattle.scr_types.specs.Texts.{Spells}
@@ -37,6 +37,9 @@ pub record PrintedHold : Type 0 where
       → files (word_at 1 words) ≡ Some text → Passes limit text spec order → Answers words files bytes status → PrintsWhatHolds spec bytes
   pub done : (words : List (List ℕ)) (files : Files) (limit : ℕ) (text bytes : List ℕ) (spec : Data) → form_of words ≡ Some (Invariants limit)
       → files (word_at 1 words) ≡ Some text → Spells text spec → Answers words files bytes Done → PrintsWhatHolds spec bytes
+  -- with whatever status a text that spells a specification is answered, it is so, or this is the report of `check`, each line of which is right
+  pub either : (words : List (List ℕ)) (files : Files) (limit : ℕ) (text bytes : List ℕ) (status : Status) (spec : Data) → form_of words ≡ Some (Invariants limit)
+      → files (word_at 1 words) ≡ Some text → Spells text spec → Answers words files bytes status → PrintsWhatHolds spec bytes ⊎ TellsRight spec bytes status
 
 -- an answer to the words of `assert` on a text that passes its checks: the line on why the second text spells no assertions, or a
 -- line on each of them, and each line is so, what is derived within the limit taken for granted; with `Done` the first text passes,

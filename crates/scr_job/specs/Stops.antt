@@ -12,3 +12,7 @@ pub data StopsScript (IsFaulty : List ℕ → ScriptKind → Type 0) (room : ℕ
   past : next_piece room left ≡ Past → StopsScript IsFaulty room left kind.Limit
   long : next_piece room left ≡ Long → StopsScript IsFaulty room left kind.Syntax
   faulty : {fault : ScriptKind} → next_piece room left ≡ Line → IsFaulty (first_line left) fault → StopsScript IsFaulty room left fault
+
+-- it stops nowhere: no bytes tell of it up to a place where it does
+abbrev pub StopsNowhere : (List ℕ → Type 0) → Type 0
+StopsNowhere tells = (bytes : List ℕ) → tells bytes → ⊥

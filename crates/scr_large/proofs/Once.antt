@@ -38,9 +38,10 @@ use Rattle.scr_report.specs.Faults.{refusal_text}
 use Rattle.scr_report.specs.Reports.{cycle_text}
 use Rattle.scr_report.specs.Runs.{state_text}
 use Rattle.scr_job.specs.declared.status.Status.{Status}
-use Rattle.scr_job.specs.declared.status.Status.TheVariants.{Undecided}
+use Rattle.scr_job.specs.declared.status.Status.TheVariants.{Done, Undecided}
 use Rattle.scr_job.specs.Ends.{IsFront, is_own}
 use Rattle.scr_checking.specs.Reports.{all_yes, verdicts_status}
+use Rattle.scr_checking.specs.Checking.{Passes}
 use Rattle.scr_checking.proofs.Lines.{yes_verdicts}
 use Rattle.scr_checking.proofs.Statuses.{verdicts_final}
 use Rattle.scr_simulator.specs.Faults.{kind_of}
@@ -48,7 +49,7 @@ use Rattle.scr_generate.specs.Chain.{chain_text}
 use Rattle.dd_store.specs.declared.store.TheConstants.{NODE_LIMIT}
 use Rattle.scr_large.specs.Texts.{number_line, counts_of, checked_text}
 use Rattle.scr_large.specs.Summaries.{script, RunSummary, ran, stopped, phase_of, IsDerivedFor, PassedSummary, counted, undecided, SpecSummary, circular, found, passed, TextSummary, spelled, refused}
-use Rattle.scr_large.specs.Laws.{OneSummary}
+use Rattle.scr_large.specs.Laws.{IsPhaseDecided, NoneFails, OneSummary}
 use Rattle.scr_large.proofs.Lines.{first_some, second_some, third_some}
 
 -- ---- the run
@@ -151,6 +152,16 @@ module _ (spec : Data) (order : Order) (k : PassesChecks spec order) where
       by_derived (derived.All list) is = run_some (λ more status run. none _ _ (counted list more status is run))
       by_derived (derived.Undecided round c) is = none [] Undecided (undecided round c is)
 
+  -- ---- how it ends
+
+  run_done : NoneFails spec → (bytes : List ℕ) (status : Status) → RunSummary spec bytes status → status ≡ Done
+  run_done runs bytes status (ran first last initial takes) = refl
+  run_done runs bytes status (stopped first line fault initial fails) = absurd (runs first line fault initial fails)
+
+  passed_done : IsPhaseDecided spec order.list → NoneFails spec → (bytes : List ℕ) (status : Status) → PassedSummary spec order.list bytes status → status ≡ Done
+  passed_done decided runs bytes status (counted list more ending is run) = run_done runs more ending run
+  passed_done decided runs bytes status (undecided round c is) = absurd (decided round c is)
+
 -- ---- specifications
 
 yes_list : (ts : List Table) → list_all is_yes (map (λ t. Yes) ts) ≡ true
@@ -208,6 +219,13 @@ module _ (stages : ℕ) (spec : Data) (sound : IsSound spec) where
       by_verdicts list is verdicts are false e =
           none _ _ (found (record { list = list; reads = read_lists spec }) verdicts (record { ordered = record { ordered = is; reads = refl }; verdicts_are = are; some_other = e }))
 
+  spec_done : (order : Order) (bytes : List ℕ) (status : Status) → IsPassed spec NODE_LIMIT order → IsPhaseDecided spec order.list → NoneFails spec → SpecSummary stages spec bytes status → status ≡ Done
+  spec_done order bytes status p decided runs (circular cycle told) = absurd (order_or_cycle.apart spec order.list cycle p.ordered.ordered told)
+  spec_done order bytes status p decided runs (found later verdicts f) = absurd (other_ends later order verdicts f p)
+  spec_done order bytes status p decided runs (passed later more ending q mine) =
+      let same = one_order.once spec later.list order.list q.ordered.ordered p.ordered.ordered in
+      passed_done spec order (passes order p) decided runs more ending (subst (λ l. PassedSummary spec l more ending) same mine)
+
 -- ---- texts
 
 text_once : (stages : ℕ) (text x y : List ℕ) (i j : Status) → TextSummary stages text x i → TextSummary stages text y j → (x ≡ y) × (i ≡ j)
@@ -224,12 +242,20 @@ text_some stages text none =
     (λ spec is. spec_some stages spec (spelled_is_sound.sound text spec is) (λ more status mine. none more status (spelled spec more status is mine)))
     (λ refusal h. none _ _ (refused refusal h))
 
+text_done : (stages : ℕ) (text : List ℕ) (spec : Data) (order : Order) (bytes : List ℕ) (status : Status) → Passes NODE_LIMIT text spec order → IsPhaseDecided spec order.list → NoneFails spec
+    → TextSummary stages text bytes status → status ≡ Done
+text_done stages text spec order bytes status p decided runs (spelled other more ending is mine) =
+    let same : other ≡ spec = one_reading.once text other spec is p.spells in
+    spec_done stages spec (spelled_is_sound.sound text spec p.spells) order bytes status p.passed decided runs (subst (λ s. SpecSummary stages s bytes status) same mine)
+text_done stages text spec order bytes status p decided runs (refused refusal h) = absurd (one_reading.apart text spec refusal p.spells h)
+
 pub one_summary : OneSummary
 one_summary = record {
   text_once = text_once;
   text_some = text_some;
   once = λ n x y i j a b. text_once (n + 1) (chain_text n) x y i j a b;
   some = λ n. text_some (n + 1) (chain_text n);
+  done = λ n spec order bytes status p decided runs answer. text_done (n + 1) (chain_text n) spec order bytes status p decided runs answer;
 }
 
 -- ---- how the command ends

@@ -13,7 +13,7 @@ use Rattle.scr_io.specs.declared.lines.Piece.{Piece}
 use Rattle.scr_io.specs.declared.lines.Piece.TheVariants.{Line, Long, Past, End}
 use Rattle.scr_text.specs.declared.memory.NoMemory.{NoMemory}
 use Rattle.scr_job.specs.declared.status.Status.{Status}
-use Rattle.scr_job.specs.declared.status.Status.TheVariants.{ReadFault, CodeRefused}
+use Rattle.scr_job.specs.declared.status.Status.TheVariants.{Done, ReadFault, CodeRefused}
 use Rattle.scr_job.specs.declared.walk.TheConstants.{SCRIPT_LIMIT}
 use Rattle.scr_job.specs.declared.command.First.{First}
 use Rattle.scr_job.specs.declared.command.First.TheVariants.{Answer, Base}
@@ -28,10 +28,12 @@ use Rattle.scr_job.proofs.EndsLemmas.{by_file_once, by_file_some}
 use Rattle.scr_runc.specs.declared.command.TheConstants.{C_LIMIT}
 use Rattle.scr_runc.specs.Texts.{objects_text, refused_text}
 use Rattle.scr_runc.specs.Runs.{RunsCalls, RunsFile, RunsText, RunCAnswers, ReachesCalls, closed, faulty, passed, taken, overflow, too_long, refused, read}
+use Rattle.scr_runc.specs.Tells.{TellsFault, TellsOverflow, AreMade}
 use Rattle.scr_runc.specs.Firsts.{IsRefusal}
 use Rattle.scr_runc.specs.Laws.{IsEnding, OneAnswerOfCalls}
 use Rattle.scr_runc.proofs.Existence.{some_answer}
 use Rattle.scr_runc.proofs.Once.{once}
+use Rattle.scr_runc.proofs.Told.{run, front, overflowed}
 
 -- ---- by the file of calls
 
@@ -112,6 +114,22 @@ answers_end text calls bytes status unit within reads (too_long h e s) = absurd 
 answers_end text calls bytes status unit within reads (refused line h r e s) = absurd (one_outcome.apart text unit line reads r)
 answers_end text calls bytes status unit within reads (read other h r a) = file_ends other calls bytes status a
 
+-- the one unit of the text stands in for another
+as_unit : (text : List ℕ) (unit other : CUnit) (tells : CUnit → List ℕ → Type 0) (bytes : List ℕ) → Reads text unit → Reads text other → tells other bytes → tells unit bytes
+as_unit text unit other tells bytes reads also told = subst (λ u. tells u bytes) (one_outcome.once text other unit also reads) told
+
+answers_done : (text calls bytes : List ℕ) (status : Status) → AreMade text calls → RunCAnswers (Some text) (Some calls) bytes status → status ≡ Done
+answers_done text calls bytes status p answers = by_ending (answers_end text calls bytes status p.0 p.1 p.2 answers)
+  where
+    by_ending : IsEnding status → status ≡ Done
+    by_ending (inl done) = done
+    by_ending (inr (inl finding)) =
+        let o = overflowed text calls bytes (subst (RunCAnswers (Some text) (Some calls) bytes) finding answers) in
+        absurd (p.4 bytes (as_unit text p.0 o.0 (λ u. TellsOverflow u calls) bytes p.2 o.2 o.3))
+    by_ending (inr (inr stopped)) =
+        let f = front text calls bytes (subst (RunCAnswers (Some text) (Some calls) bytes) stopped answers) in
+        absurd (p.3 bytes (as_unit text p.0 f.0 (λ u. TellsFault u calls) bytes p.2 f.2 f.3))
+
 pub one_answer_of_calls : OneAnswerOfCalls
 one_answer_of_calls = record {
   ends = answers_end;
@@ -121,6 +139,10 @@ one_answer_of_calls = record {
   file_some = file_some;
   one = answers_once;
   never_none = some_answers;
+  run = run;
+  front = front;
+  overflow = overflowed;
+  done = answers_done;
 }
 
 -- ---- of the command

@@ -3,4 +3,5 @@ pub mod TextLaws
 pub mod Once
 pub mod Existence
 pub mod Steps
+pub mod Told
 pub mod Files

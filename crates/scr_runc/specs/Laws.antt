@@ -9,6 +9,7 @@ use Rattle.scr_job.specs.Ends.{IsFront, HasFront}
 use Rattle.scr_job.specs.Session.{IsAnswered}
 use Rattle.scr_runc.specs.declared.command.TheConstants.{C_LIMIT}
 use Rattle.scr_runc.specs.Runs.{RunsCalls, RunsFile, RunCAnswers}
+use Rattle.scr_runc.specs.Tells.{TellsCalls, TellsFault, TellsOverflow, AreMade}
 
 -- how calls of a unit end
 abbrev pub IsEnding : Status → Type 0
@@ -27,3 +28,11 @@ pub record OneAnswerOfCalls : Type 0 where
   pub never_none : (held calls : Option (List ℕ)) → IsFront (RunCAnswers held calls) []
   -- a text that is a unit, where there is a file of calls, is answered with `Done`, or with what a call that overflows or a faulty line gives
   pub ends : (text calls bytes : List ℕ) (status : Status) (unit : CUnit) → length text ≤ C_LIMIT → Reads text unit → RunCAnswers (Some text) (Some calls) bytes status → IsEnding status
+  -- with `Done` the text is a unit, and what is written are the objects before the first call and behind each
+  pub run : (text calls bytes : List ℕ) → RunCAnswers (Some text) (Some calls) bytes Done → (unit : CUnit) × (length text ≤ C_LIMIT) × Reads text unit × TellsCalls unit calls bytes
+  -- with `ScriptRefused` it is one as well, and the same was written of the lines in front of the one at which the calls stop, and then its fault
+  pub front : (text calls bytes : List ℕ) → RunCAnswers (Some text) (Some calls) bytes ScriptRefused → (unit : CUnit) × (length text ≤ C_LIMIT) × Reads text unit × TellsFault unit calls bytes
+  -- and with `Findings` in front of the first call that overflows, and then how many calls there are up to it
+  pub overflow : (text calls bytes : List ℕ) → RunCAnswers (Some text) (Some calls) bytes Findings → (unit : CUnit) × (length text ≤ C_LIMIT) × Reads text unit × TellsOverflow unit calls bytes
+  -- where the calls come to neither, the ending is `Done`
+  pub done : (text calls bytes : List ℕ) (status : Status) → AreMade text calls → RunCAnswers (Some text) (Some calls) bytes status → status ≡ Done

@@ -1,5 +1,6 @@
 pub mod Lines
 pub mod Texts
 pub mod Runs
+pub mod Tells
 pub mod Firsts
 pub mod Laws

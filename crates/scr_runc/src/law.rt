@@ -2,7 +2,8 @@
 ghost use Rattle.scr_runc.specs.Laws.{OneAnswerOfCalls};
 
 /// A unit has one answer to a file of calls, and files have one answer of `runc`, and never none. That of a unit
-/// ends with `Done`, or says which call overflows or which line is faulty.
+/// tells the objects before the first call and behind each, up to the first call that overflows or the first line
+/// that is faulty, if there is one.
 pub fn one_answer_of_calls()
     ensures { OneAnswerOfCalls }
 {}
