@@ -2,7 +2,11 @@
 
 The text is taken to be right: scr check tells its faults."""
 import re
+import signal
 import sys
+
+# Comments may hold any bytes. So none is changed, and only a line feed ends a line.
+ANY_BYTES = {"encoding": "utf-8", "errors": "surrogateescape", "newline": "\n"}
 
 
 class Table:
@@ -40,33 +44,44 @@ def statement(line):
     return " ".join(line.split("#")[0].split())
 
 
+def be_filter():
+    """Lets standard output take what lines_of reads, and ends the tool as quietly as other filters where nobody reads on."""
+    sys.stdout.reconfigure(**ANY_BYTES)
+    signal.signal(signal.SIGPIPE, signal.SIG_DFL)
+
+
 def lines_of(path):
-    """The lines of a file, or of standard input for -. Comments may hold any bytes."""
+    """The lines of a file, or of standard input for -."""
     if path == "-":
+        sys.stdin.reconfigure(**ANY_BYTES)
         return sys.stdin.read().split("\n")
     try:
-        with open(path, encoding="utf-8", errors="replace") as text:
+        with open(path, **ANY_BYTES) as text:
             return text.read().split("\n")
     except OSError as fault:
         sys.exit(f"{path}: cannot be read: {fault.strerror}")
 
 
 def tables(lines):
-    """The tables of a text, in its order."""
-    found = []
+    """The tables of a text, in its order, and the rows that are in no table of their kind."""
+    found, stray = [], []
     for line in map(statement, lines):
         head = re.match(r"(CONDITION|EVENT|MODES) (\w+)(?: OVER (\w+))?$", line)
         row = re.match(r"ROW ?([^:]*):(.*)$", line)
         change = re.match(r"FROM (\w+) TO (\w+) ?: ?(.*)$", line)
+        kind = found[-1].kind if found else None
+        has_cells = kind in ("CONDITION", "EVENT")
         if head:
             found.append(Table(*head.groups()))
-        elif row:
+        elif row and has_cells:
             found[-1].add_row(*row.groups())
-        elif change:
+        elif change and kind == "MODES":
             found[-1].add_change(*change.groups())
-        elif line.startswith("VALUES "):
+        elif has_cells and line.startswith("VALUES "):
             found[-1].values = split(line[7:], "|")
-    return found
+        elif re.match(r"(ROW|FROM|VALUES)\b", line):
+            stray.append(line)
+    return found, stray
 
 
 def sizes(lines):
