@@ -22,86 +22,53 @@ fn checked(number: i64) -> Option<i64>
 fn product(left: i64, right: i64) -> Option<i64>
     ensures { result ≡ spec.checked (left *ℤ right) }
 {
-    match left.checked_mul(right) {
-        Some(number) => checked(number),
-        None => None,
-    }
+    checked(left.checked_mul(right)?)
 }
 
 fn sum(left: i64, right: i64) -> Option<i64>
     ensures { result ≡ spec.checked (left +ℤ right) }
 {
-    match left.checked_add(right) {
-        Some(number) => checked(number),
-        None => None,
-    }
+    checked(left.checked_add(right)?)
 }
 
 fn difference(left: i64, right: i64) -> Option<i64>
     ensures { result ≡ spec.checked (left -ℤ right) }
 {
-    match left.checked_sub(right) {
-        Some(number) => checked(number),
-        None => None,
-    }
+    checked(left.checked_sub(right)?)
 }
 
 fn negation(number: i64) -> Option<i64>
     ensures { result ≡ spec.checked (neg_ℤ number) }
 {
-    match number.checked_neg() {
-        Some(number) => checked(number),
-        None => None,
-    }
+    checked(number.checked_neg()?)
 }
 
 /// The product, where both numbers and the product are there.
-pub fn times(left: Option<i64>, right: Option<i64>) -> Option<i64>
+pub(crate) fn times(left: Option<i64>, right: Option<i64>) -> Option<i64>
     ensures { result ≡ spec.times left right }
 {
-    match left {
-        Some(left) => match right {
-            Some(right) => product(left, right),
-            None => None,
-        },
-        None => None,
-    }
+    product(left?, right?)
 }
 
 /// The sum, where both numbers and the sum are there.
-pub fn plus(left: Option<i64>, right: Option<i64>) -> Option<i64>
+pub(crate) fn plus(left: Option<i64>, right: Option<i64>) -> Option<i64>
     ensures { result ≡ spec.plus left right }
 {
-    match left {
-        Some(left) => match right {
-            Some(right) => sum(left, right),
-            None => None,
-        },
-        None => None,
-    }
+    sum(left?, right?)
 }
 
 /// The difference, where both numbers and the difference are there.
-pub fn minus(left: Option<i64>, right: Option<i64>) -> Option<i64>
+pub(crate) fn minus(left: Option<i64>, right: Option<i64>) -> Option<i64>
     ensures { result ≡ spec.minus left right }
 {
-    match left {
-        Some(left) => match right {
-            Some(right) => difference(left, right),
-            None => None,
-        },
-        None => None,
-    }
+    difference(left?, right?)
 }
 
 /// The number with the other sign, where it is there.
-pub fn negative(number: Option<i64>) -> Option<i64>
+pub(crate) fn negative(number: Option<i64>) -> Option<i64>
     ensures { result ≡ spec.negative number }
 {
-    match number {
-        Some(number) => negation(number),
-        None => None,
-    }
+    negation(number?)
 }
 
 fn holds_between(left: i64, relation: Relation, right: i64) -> bool
@@ -118,24 +85,15 @@ fn holds_between(left: i64, relation: Relation, right: i64) -> bool
 }
 
 /// Whether the numbers stand in the relation, where both are there.
-pub fn relates(relation: Relation, left: Option<i64>, right: Option<i64>) -> Option<bool>
+pub(crate) fn relates(relation: Relation, left: Option<i64>, right: Option<i64>) -> Option<bool>
     ensures { result ≡ spec.relates relation left right }
 {
-    match left {
-        Some(left) => match right {
-            Some(right) => Some(holds_between(left, relation, right)),
-            None => None,
-        },
-        None => None,
-    }
+    Some(holds_between(left?, relation, right?))
 }
 
 /// The other truth, where it is there.
-pub fn opposite(truth: Option<bool>) -> Option<bool>
+pub(crate) fn opposite(truth: Option<bool>) -> Option<bool>
     ensures { result ≡ option_map not truth }
 {
-    match truth {
-        Some(truth) => Some(!truth),
-        None => None,
-    }
+    Some(!truth?)
 }

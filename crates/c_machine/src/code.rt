@@ -8,7 +8,7 @@ use sqlite_items::{Boxed, Items};
 /// A term of a sum.
 #[cycle(value)]
 #[derive(Debug, Drop)]
-pub struct Part {
+pub(crate) struct Part {
     pub minus: bool,
     pub value: Value,
 }
@@ -16,7 +16,7 @@ pub struct Part {
 /// An expression. `Unknown` is a name that nothing has.
 #[cycle(value)]
 #[derive(Debug, Drop)]
-pub enum Value {
+pub(crate) enum Value {
     Constant(i64),
     Parameter,
     Object(usize),
@@ -33,7 +33,7 @@ pub enum Value {
 /// A clause of a `switch`.
 #[cycle(action)]
 #[derive(Debug, Drop)]
-pub struct Case {
+pub(crate) struct Case {
     pub label: i64,
     pub body: Items<Action>,
     pub stops: bool,
@@ -42,7 +42,7 @@ pub struct Case {
 /// A statement. `Unknown` is one with the name of no object or no function.
 #[cycle(action)]
 #[derive(Debug, Drop)]
-pub enum Action {
+pub(crate) enum Action {
     Assign(usize, Value),
     If(Value, Items<Action>, Items<Action>),
     Call(usize, Option<Value>),
@@ -52,14 +52,14 @@ pub enum Action {
 
 /// A function, and whether it has a parameter.
 #[derive(Debug, Drop)]
-pub struct Routine {
+pub(crate) struct Routine {
     pub takes: bool,
     pub body: Items<Action>,
 }
 
 /// The functions with their names. Each calls only those before it.
 #[derive(Drop)]
-pub struct Resolved {
+pub(crate) struct Resolved {
     pub names: Places,
     pub routines: Items<Routine>,
 }

@@ -25,7 +25,7 @@ fn add_object(alloc: Global, names: &mut Places, item: &CItem) -> Result<(), NoM
 
 /// The names of the objects.
 #[tactic(auto, using(crate::proofs::Items::item_laws))]
-pub fn object_names(alloc: Global, items: &[CItem]) -> Result<Places, NoMemory>
+pub(crate) fn object_names(alloc: Global, items: &[CItem]) -> Result<Places, NoMemory>
     ensures { IfOk result (λ names. names ≡ map (λ o. o.name) (filter_map object_of items.now)) }
 {
     let mut names = Places::new(alloc);
@@ -49,7 +49,7 @@ fn add_setter(alloc: Global, names: &mut Places, item: &CItem) -> Result<(), NoM
 
 /// The names of the functions with a parameter.
 #[tactic(auto, using(crate::proofs::Items::item_laws))]
-pub fn setter_names(alloc: Global, items: &[CItem]) -> Result<Places, NoMemory>
+pub(crate) fn setter_names(alloc: Global, items: &[CItem]) -> Result<Places, NoMemory>
     ensures { IfOk result (λ names. names ≡ map (λ f. f.name) (filter_map setter_of items.now)) }
 {
     let mut names = Places::new(alloc);
@@ -73,7 +73,7 @@ fn add_number(numbers: &mut Items<i64>, item: &CItem) -> Result<(), NoMemory>
 
 /// The initial numbers of the objects.
 #[tactic(auto, using(crate::proofs::Items::item_laws))]
-pub fn initial_numbers(alloc: Global, items: &[CItem]) -> Result<Items<i64>, NoMemory>
+pub(crate) fn initial_numbers(alloc: Global, items: &[CItem]) -> Result<Items<i64>, NoMemory>
     ensures { IfOk result (λ numbers. numbers ≡ map (λ o. o.init) (filter_map object_of items.now)) }
 {
     let mut numbers = Items::new(alloc);
@@ -104,7 +104,11 @@ fn add_function(
 
 /// The functions, where the objects have these names.
 #[tactic(auto, using(crate::proofs::Items::item_laws))]
-pub fn functions(alloc: Global, objects: &Places, items: &[CItem]) -> Result<Resolved, NoMemory>
+pub(crate) fn functions(
+    alloc: Global,
+    objects: &Places,
+    items: &[CItem],
+) -> Result<Resolved, NoMemory>
     ensures { IfOk result (λ code. code ≡ spec.resolved objects.now (filter_map function_of items.now)) }
 {
     let mut code = Resolved {

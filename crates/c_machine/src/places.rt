@@ -12,7 +12,7 @@ use std::marker::Model;
 
 /// The first and the last number of a name.
 #[derive(Clone, Copy, Debug)]
-pub struct Ends {
+pub(crate) struct Ends {
     pub first: usize,
     pub last: usize,
 }
@@ -20,7 +20,7 @@ pub struct Ends {
 /// Names, each with a number: how many were added before it. A name may be added more than once. It is looked up in
 /// a map, so that resolving a unit takes time in proportion to its length. Contracts see the list of names.
 #[derive(Drop)]
-pub struct Places {
+pub(crate) struct Places {
     names: Items<Name>,
     ends: IndexMap<Vec<u8>, Ends>,
 }

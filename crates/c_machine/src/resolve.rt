@@ -248,7 +248,7 @@ fn resolve_clauses(
 }
 
 /// The function, where the objects and the functions before it have these names.
-pub fn resolve_function(
+pub(crate) fn resolve_function(
     alloc: Global,
     objects: &Places,
     functions: &Places,

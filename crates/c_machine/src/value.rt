@@ -15,7 +15,7 @@ fn object_at(row: &[i64], place: usize) -> Option<i64>
 /// The number of an expression. None where it has none.
 #[cycle(number)]
 #[tactic(auto, using(crate::proofs::Unrolled::number_laws, crate::specs::declared::code::Value::TheViews::the_lemmas))]
-pub fn number(value: &Value, argument: Option<i64>, row: &[i64]) -> Option<i64>
+pub(crate) fn number(value: &Value, argument: Option<i64>, row: &[i64]) -> Option<i64>
     ensures { result ≡ value_number argument row.now value.now }
 {
     match value {
@@ -60,7 +60,7 @@ fn sum(parts: &[Part], argument: Option<i64>, row: &[i64]) -> Option<i64>
 /// The truth of an expression. None where it has none.
 #[cycle(truth)]
 #[tactic(auto, using(crate::proofs::Unrolled::truth_laws, crate::specs::declared::code::Value::TheViews::the_lemmas))]
-pub fn truth(value: &Value, argument: Option<i64>, row: &[i64]) -> Option<bool>
+pub(crate) fn truth(value: &Value, argument: Option<i64>, row: &[i64]) -> Option<bool>
     ensures { result ≡ value_truth argument row.now value.now }
 {
     match value {
