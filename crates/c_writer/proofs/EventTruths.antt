@@ -25,7 +25,7 @@ use Rattle.c_subset.specs.declared.expr.CExpr.{CExpr}
 use Rattle.c_subset.specs.declared.expr.CExpr.TheVariants.{Name, Not}
 use Rattle.c_subset.specs.Meaning.{Objects, Names, name_value, all_true, some_true, truth_of}
 use Rattle.c_writer.specs.Objects.{new_object, old_object}
-use Rattle.c_writer.specs.Conditions.{cond_expr, both_of, either_of, change_exprs, guard_exprs, prim_expr, event_expr}
+use Rattle.c_writer.specs.Conditions.{cond_expr, conjunction, disjunction, change_exprs, guard_exprs, prim_expr, event_expr}
 use Rattle.c_writer.proofs.Meanings.{number_of-Name, truth_of-Not, truth_of-And, truth_of-Or}
 use Rattle.c_writer.proofs.ConditionTruths.{some_step, relate_truth, truth_truth, AreShown, cond_truth}
 
@@ -45,15 +45,15 @@ alone_all None = refl
 alone_all (Some true) = refl
 alone_all (Some false) = refl
 
-both_truth : (names : Names) (row : Objects) (es : List CExpr) → truth_of names row (both_of es) ≡ all_true (map (truth_of names row) es)
-both_truth names row [] = truth_truth names row true
-both_truth names row (e ∷ []) = alone_all (truth_of names row e)
-both_truth names row (e ∷ f ∷ es) = truth_of-And names row (e ∷ f ∷ es)
+conjunction_truth : (names : Names) (row : Objects) (es : List CExpr) → truth_of names row (conjunction es) ≡ all_true (map (truth_of names row) es)
+conjunction_truth names row [] = truth_truth names row true
+conjunction_truth names row (e ∷ []) = alone_all (truth_of names row e)
+conjunction_truth names row (e ∷ f ∷ es) = truth_of-And names row (e ∷ f ∷ es)
 
-either_truth : (names : Names) (row : Objects) (es : List CExpr) → truth_of names row (either_of es) ≡ some_true (map (truth_of names row) es)
-either_truth names row [] = truth_truth names row false
-either_truth names row (e ∷ []) = alone_all (truth_of names row e)
-either_truth names row (e ∷ f ∷ es) = truth_of-Or names row (e ∷ f ∷ es)
+disjunction_truth : (names : Names) (row : Objects) (es : List CExpr) → truth_of names row (disjunction es) ≡ some_true (map (truth_of names row) es)
+disjunction_truth names row [] = truth_truth names row false
+disjunction_truth names row (e ∷ []) = alone_all (truth_of names row e)
+disjunction_truth names row (e ∷ f ∷ es) = truth_of-Or names row (e ∷ f ∷ es)
 
 -- ---- changes and guards
 
@@ -141,7 +141,7 @@ prim_truth names row spec old new p t u saved r =
     let gs = guard_exprs spec p.guard in
     let e = change_truths names row spec old new p.change t u saved over.0 typed.0 r.shown in
     let f = guard_truths names row spec old p.guard t saved over.1 typed.1 in
-    both_truth names row (cs ++ gs)
+    conjunction_truth names row (cs ++ gs)
     ∙ ap all_true (map-append (truth_of names row) cs gs ∙ ap (λ x. x ++ map (truth_of names row) gs) e ∙ ap (λ x. map (λ b. Some b) bs ++ x) f ∙ sym (map-append (λ b. Some b) bs ds))
     ∙ all_known (bs ++ ds)
     ∙ ap (λ b. Some b) (list_all-append (λ b. b) bs ds ∙ ap (λ b. b && list_all (λ b. b) ds) (change_all spec old new p.change) ∙ ap (λ b. change_holds spec old new p.change && b) (guard_all spec old p.guard))
@@ -162,4 +162,4 @@ pub event_truth : (names : Names) (row : Objects) (spec : Data) (old new : Codes
     → IsTrue (is_event_over spec e) → IsTrue (list_all (prim_passes (is_cond_typed spec)) e.prims) → AreShown names row spec (new_object spec) new (λ w. event_reads w e)
     → truth_of names row (event_expr spec e) ≡ Some (event_true spec old new e)
 event_truth names row spec old new e t u saved over typed shown =
-    either_truth names row (map (prim_expr spec) e.prims) ∙ prims_truth names row spec old new e.prims t u saved over typed shown
+    disjunction_truth names row (map (prim_expr spec) e.prims) ∙ prims_truth names row spec old new e.prims t u saved over typed shown

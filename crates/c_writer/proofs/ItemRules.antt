@@ -12,6 +12,7 @@ use Rattle.std.proofs.lemmas.List.Sums.{sum_by-cons}
 use Rattle.scr_text.specs.Piece.{is_word_byte}
 use Rattle.scr_text.specs.Words.{keyword_of}
 use Rattle.scr_spec.specs.Data.{Data}
+use Rattle.scr_spec.specs.Names.{variable_name}
 use Rattle.scr_spec.specs.declared.spec.Variable.{Variable}
 use Rattle.scr_spec.specs.Meaning.{Codes, code_of}
 use Rattle.scr_spec.specs.Types.{kind_modes}
@@ -30,7 +31,7 @@ use Rattle.c_subset.specs.Measures.{weight_step, stmt_weight, body_weight, depth
 use Rattle.c_subset.specs.Rules.{rule_step, is_stmt, is_argument, is_new, is_parameter, number_names, is_function, are_items}
 use Rattle.c_subset.specs.Unrolled.{of_stmt-Call}
 use Rattle.c_subset.specs.Runs.{setter as setter_name}
-use Rattle.c_writer.specs.Objects.{variable_name, new_name, old_name, new_object, old_object, save_name, step_name, argument_name}
+use Rattle.c_writer.specs.Objects.{new_name, old_name, new_object, old_object, save_name, step_name, argument_name}
 use Rattle.c_writer.specs.Units.{variables_of, object_item, save_stmt, setter}
 use Rattle.c_writer.proofs.Shapes.{name_at, weaker}
 use Rattle.c_writer.proofs.CellShapes.{HasObjects}

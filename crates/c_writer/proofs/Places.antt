@@ -12,6 +12,7 @@ use Rattle.std.proofs.lemmas.List.Sums.{position_or_len_is}
 use Rattle.std.proofs.lemmas.Option.{slice_get-get_or}
 use Rattle.std.proofs.lemmas.Slice.Eq.{bytes_eq-Decides}
 use Rattle.scr_spec.specs.Data.{Data}
+use Rattle.scr_spec.specs.Names.{variable_name}
 use Rattle.scr_spec.specs.declared.spec.Variable.{Variable}
 use Rattle.scr_spec.specs.Meaning.{Codes, code_of}
 use Rattle.scr_spec.specs.Distinct.{are_distinct}
@@ -21,7 +22,7 @@ use Rattle.scr_spec.specs.Sound.{IsSound}
 use Rattle.scr_spec.proofs.Kept.{rules_kept}
 use Rattle.c_subset.specs.Meaning.{place_of, object_value}
 use Rattle.c_subset.specs.Statements.{assign}
-use Rattle.c_writer.specs.Objects.{variable_name, new_name, old_name, new_object, old_object}
+use Rattle.c_writer.specs.Objects.{new_name, old_name, new_object, old_object}
 use Rattle.c_writer.specs.Units.{variables_of}
 use Rattle.c_writer.proofs.CellRuns.{IsLaid}
 

@@ -10,6 +10,7 @@ use Rattle.std.proofs.lemmas.List.Elements.{filter_map-append}
 use Rattle.std.proofs.Math.Bool.{or-false}
 use Rattle.std.proofs.lemmas.List.FromFn.{fill_by_all}
 use Rattle.scr_spec.specs.Data.{Data}
+use Rattle.scr_spec.specs.Names.{variable_name}
 use Rattle.scr_spec.specs.Meaning.{Codes, code_of}
 use Rattle.scr_spec.specs.Relations.{is_monitored}
 use Rattle.scr_spec.specs.Sound.{IsSound}
@@ -22,7 +23,7 @@ use Rattle.c_subset.specs.Parts.{object_of, function_of, objects, functions, obj
 use Rattle.c_subset.specs.Meaning.{Objects, Names, object_value, name_value}
 use Rattle.c_subset.specs.Statements.{Calls, assign, block_effect, body_effect, with_function, no_calls, calls_of}
 use Rattle.c_subset.specs.Runs.{initial_objects, call_effect, setter as setter_name}
-use Rattle.c_writer.specs.Objects.{variable_name, new_object, old_object, save_name, step_name, argument_name}
+use Rattle.c_writer.specs.Objects.{new_object, old_object, save_name, step_name, argument_name}
 use Rattle.c_writer.specs.Tables.{variable_stmts}
 use Rattle.c_writer.specs.Units.{variables_of, object_item, save_stmt, save_function, step_function, setter, setter_item, setters, unit_of}
 use Rattle.c_writer.proofs.Meanings.{number_of-Name, effect_of-Assign, effect_of-Call, block_then}

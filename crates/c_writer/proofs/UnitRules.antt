@@ -8,6 +8,7 @@ use Rattle.std.proofs.lemmas.Bool.{and_from, or_from, leb-true, le-leb}
 use Rattle.std.proofs.lemmas.List.{append_assoc, map-append}
 use Rattle.std.proofs.lemmas.List.Folds.{list_any-append, find-append}
 use Rattle.scr_spec.specs.Data.{Data}
+use Rattle.scr_spec.specs.Names.{variable_name}
 use Rattle.scr_spec.specs.Meaning.{Codes, code_of}
 use Rattle.scr_spec.specs.Domains.{IsTyped, domain_of}
 use Rattle.scr_spec.specs.Relations.{is_monitored}
@@ -24,7 +25,7 @@ use Rattle.c_subset.specs.Kinds.{is_number_in_range}
 use Rattle.c_subset.specs.Scope.{Known, Scope}
 use Rattle.c_subset.specs.Rules.{known_of, with_item, is_function, are_items, is_unit}
 use Rattle.c_subset.specs.Runs.{setter as setter_name}
-use Rattle.c_writer.specs.Objects.{variable_name, new_object, old_object, save_name, step_name, argument_name}
+use Rattle.c_writer.specs.Objects.{new_object, old_object, save_name, step_name, argument_name}
 use Rattle.c_writer.specs.Units.{variables_of, object_item, save_function, step_function, setter, setter_item, setters, unit_of}
 use Rattle.c_writer.specs.Laws.{UnitKeepsRules}
 use Rattle.c_writer.proofs.SideNumbers.{code_bounded}

@@ -5,6 +5,7 @@ use Rattle.std.specs.Option.{option_and_then, option_map}
 use Rattle.std.proofs.lemmas.Bool.{cases_eq}
 use Rattle.std.proofs.lemmas.List.{length-set, get_or-set_same, get_or-set_other}
 use Rattle.scr_spec.specs.Data.{Data}
+use Rattle.scr_spec.specs.Names.{variable_name}
 use Rattle.scr_spec.specs.declared.state.Input.{Input}
 use Rattle.scr_spec.specs.Meaning.{Codes, code_of}
 use Rattle.scr_spec.specs.Relations.{is_monitored}
@@ -18,7 +19,7 @@ use Rattle.scr_next.proofs.Runs.{one_run}
 use Rattle.c_subset.specs.declared.unit.CUnit.{CUnit}
 use Rattle.c_subset.specs.Meaning.{Objects, object_value}
 use Rattle.c_subset.specs.Runs.{call_effect, rows_from, setter as setter_name}
-use Rattle.c_writer.specs.Objects.{variable_name, new_object}
+use Rattle.c_writer.specs.Objects.{new_object}
 use Rattle.c_writer.specs.Units.{unit_of}
 use Rattle.c_writer.specs.Laws.{named_input, ShowsState, ShowStates, RunsAs, UnitIsRight}
 use Rattle.c_writer.proofs.Places.{new_value}

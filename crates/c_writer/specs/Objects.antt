@@ -1,14 +1,10 @@
 -- The names in the unit of a specification. A variable has two objects: one with its new code, and one in which its old
 -- code is saved.
-use Rattle.std.specs.Prelude.{ℕ, List, [], ◌++◌, codes, slice_get}
-use Rattle.std.specs.Option.{option_map_or}
+use Rattle.std.specs.Prelude.{ℕ, List, ◌++◌, codes}
 use Rattle.scr_spec.specs.Data.{Data}
+use Rattle.scr_spec.specs.Names.{variable_name}
 use Rattle.c_writer.specs.declared.objects.Moment.{Moment}
 use Rattle.c_writer.specs.declared.objects.Moment.TheVariants.{Old, New}
-
--- the name of the variable with this number
-abbrev pub variable_name : Data → ℕ → List ℕ
-variable_name spec v = option_map_or (λ x. x.name) (slice_get spec.variables v) []
 
 abbrev pub new_name : List ℕ → List ℕ
 new_name name = codes "v_" ++ name

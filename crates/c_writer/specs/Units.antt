@@ -2,6 +2,7 @@
 use Rattle.std.specs.Prelude.{ℕ, Some, None, List, [], ◌∷◌, ◌++◌, map, length}
 use Rattle.std.specs.List.{flat_map, filter, range_with_len}
 use Rattle.scr_spec.specs.Data.{Data}
+use Rattle.scr_spec.specs.Names.{variable_name}
 use Rattle.scr_spec.specs.Meaning.{Codes, code_of}
 use Rattle.scr_spec.specs.Relations.{is_monitored}
 use Rattle.c_subset.specs.declared.expr.CExpr.TheVariants.{Name}
@@ -12,7 +13,7 @@ use Rattle.c_subset.specs.declared.unit.CItem.{CItem}
 use Rattle.c_subset.specs.declared.unit.CItem.TheVariants.{Object, Function}
 use Rattle.c_subset.specs.declared.unit.CUnit.{CUnit}
 use Rattle.c_subset.specs.Runs.{setter as setter_name}
-use Rattle.c_writer.specs.Objects.{variable_name, new_object, old_object, save_name, step_name, argument_name}
+use Rattle.c_writer.specs.Objects.{new_object, old_object, save_name, step_name, argument_name}
 use Rattle.c_writer.specs.Tables.{variable_stmts}
 
 -- the numbers of the variables

@@ -118,7 +118,7 @@ fn cell_stmt(
 
 /// The statements of the cells of a row.
 #[tactic(auto, using(crate::proofs::Growth::range_laws))]
-pub fn row_stmts(
+pub(crate) fn row_stmts(
     alloc: Global,
     spec: &Spec,
     table: &Table,

@@ -1,4 +1,4 @@
-//! Conditions and events of a specification as expressions of C.
+//! Conditions of a specification as expressions of C.
 ghost use Rattle.std.specs.Prelude.{◌≡◌, ◌++◌, [], ◌∷◌, map, IsTrue, IfOk, OnOk};
 ghost use Rattle.std.specs.List.{list_all};
 ghost use Rattle.scr_spec.specs.Shown.{data_of};
@@ -6,7 +6,7 @@ ghost use Rattle.scr_spec.specs.Over.{is_side_over, is_cond_over};
 ghost use Rattle.c_subset.specs.declared.expr.CExpr.TheVariants.{Name as Object, Relate, Not};
 ghost use Rattle.c_writer.specs.Objects.{object_of};
 ghost use Rattle.c_writer.specs.Sides.{side_expr as side};
-ghost use Rattle.c_writer.specs.Conditions.{truth_expr, cond_expr as condition, both_of as all_of, either_of as any_of};
+ghost use Rattle.c_writer.specs.Conditions.{truth_expr, cond_expr as condition, conjunction as all_of, disjunction as any_of};
 
 use crate::objects::{Moment, object_at};
 use crate::side::side_expr;
@@ -17,7 +17,7 @@ use sqlite_items::{Boxed, Items};
 use std::alloc::Global;
 
 /// Two numbers in a relation.
-pub fn relate(
+pub(crate) fn relate(
     alloc: Global,
     left: CExpr,
     relation: Relation,
@@ -31,14 +31,14 @@ pub fn relate(
 }
 
 /// The negation of an expression.
-pub fn negation(alloc: Global, e: CExpr) -> Result<CExpr, NoMemory>
+pub(crate) fn negation(alloc: Global, e: CExpr) -> Result<CExpr, NoMemory>
     ensures { IfOk result (λ n. n ≡ Not e) }
 {
     Ok(CExpr::Not(Boxed::new(alloc, e)?))
 }
 
 /// TRUE and FALSE, as a relation between numbers.
-pub fn truth(alloc: Global, value: bool) -> Result<CExpr, NoMemory>
+pub(crate) fn truth(alloc: Global, value: bool) -> Result<CExpr, NoMemory>
     ensures { IfOk result (λ e. e ≡ truth_expr value) }
 {
     let relation = if value {
@@ -69,7 +69,12 @@ fn compared(
 /// The expression of a condition at a moment.
 #[cycle(written)]
 #[tactic(auto, using(scr_spec::proofs::Laws::cond_laws, crate::proofs::Joined::cond_laws, scr_spec::specs::declared::cond::Cond::TheViews::the_lemmas))]
-pub fn cond_expr(alloc: Global, spec: &Spec, c: &Cond, moment: Moment) -> Result<CExpr, NoMemory>
+pub(crate) fn cond_expr(
+    alloc: Global,
+    spec: &Spec,
+    c: &Cond,
+    moment: Moment,
+) -> Result<CExpr, NoMemory>
     requires { IsTrue (is_cond_over (data_of spec.now) c.now) }
     ensures { IfOk result (λ e. e ≡ condition (data_of spec.now) (object_of (data_of spec.now) moment) c.now) }
 {
@@ -121,7 +126,7 @@ fn cond_exprs(
 }
 
 /// The members joined by `&&`. One member stands alone.
-pub fn both_of(alloc: Global, mut members: Items<CExpr>) -> Result<CExpr, NoMemory>
+pub(crate) fn conjunction(alloc: Global, mut members: Items<CExpr>) -> Result<CExpr, NoMemory>
     ensures { IfOk result (λ e. e ≡ all_of members) }
 {
     match members.len() {
@@ -135,7 +140,7 @@ pub fn both_of(alloc: Global, mut members: Items<CExpr>) -> Result<CExpr, NoMemo
 }
 
 /// The members joined by `||`. One member stands alone.
-pub fn either_of(alloc: Global, mut members: Items<CExpr>) -> Result<CExpr, NoMemory>
+pub(crate) fn disjunction(alloc: Global, mut members: Items<CExpr>) -> Result<CExpr, NoMemory>
     ensures { IfOk result (λ e. e ≡ any_of members) }
 {
     match members.len() {

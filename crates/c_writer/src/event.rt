@@ -6,7 +6,7 @@ ghost use Rattle.scr_spec.specs.declared.table.Change.TheVariants.{Changes};
 ghost use Rattle.scr_spec.specs.Events.{is_change_over, is_guard_over, is_prim_over, is_event_over};
 ghost use Rattle.c_writer.specs.Conditions.{change_exprs as exprs_of_change, guard_exprs, prim_expr as expr_of_prim, event_expr as expr_of_event};
 
-use crate::condition::{both_of, cond_expr, either_of, negation, relate, truth};
+use crate::condition::{cond_expr, conjunction, disjunction, negation, relate, truth};
 use crate::objects::{Moment, object_at};
 use c_subset::CExpr;
 use scr_spec::{Change, Cond, Event, Primitive, Spec};
@@ -83,11 +83,11 @@ fn prim_expr(alloc: Global, spec: &Spec, prim: &Primitive) -> Result<CExpr, NoMe
 {
     let mut members = change_exprs(alloc, spec, &prim.change)?;
     push_guard(&mut members, alloc, spec, &prim.guard)?;
-    both_of(alloc, members)
+    conjunction(alloc, members)
 }
 
 /// The expression of an event, over the objects of the old and the new codes.
-pub fn event_expr(alloc: Global, spec: &Spec, e: &Event) -> Result<CExpr, NoMemory>
+pub(crate) fn event_expr(alloc: Global, spec: &Spec, e: &Event) -> Result<CExpr, NoMemory>
     requires { IsTrue (is_event_over (data_of spec.now) e.now) }
     ensures { IfOk result (λ x. x ≡ expr_of_event (data_of spec.now) e.now) }
 {
@@ -96,5 +96,5 @@ pub fn event_expr(alloc: Global, spec: &Spec, e: &Event) -> Result<CExpr, NoMemo
         let member = prim_expr(alloc, spec, prim)?;
         members.push(member)?;
     }
-    either_of(alloc, members)
+    disjunction(alloc, members)
 }

@@ -11,6 +11,4 @@ mod table;
 mod unit;
 
 pub use law::{unit_is_right, unit_keeps_rules};
-pub use objects::Moment;
-pub use side::LinearTerm;
 pub use unit::unit_of;

@@ -1,16 +1,17 @@
 //! The names of the objects of a unit.
 ghost use Rattle.std.specs.Prelude.{◌≡◌, ◌++◌, IfOk};
+ghost use Rattle.scr_spec.specs.Names.{variable_name as name_of};
 ghost use Rattle.scr_spec.specs.Shown.{data_of};
 ghost use Rattle.c_subset.specs.Runs.{setter as setter_name};
-ghost use Rattle.c_writer.specs.Objects.{variable_name as name_of, object_of};
+ghost use Rattle.c_writer.specs.Objects.{object_of};
 
-use scr_spec::Spec;
+use scr_spec::{Spec, variable_name};
 use scr_text::{Name, NoMemory};
 use std::alloc::Global;
 
 /// The two states that a step is between.
 #[derive(Clone, Copy, Debug, PartialEq, Eq)]
-pub enum Moment {
+pub(crate) enum Moment {
     Old,
     New,
 }
@@ -24,17 +25,13 @@ fn prefixed(alloc: Global, prefix: &[u8], name: &[u8]) -> Result<Name, NoMemory>
     Name::from_slice(alloc, bytes.as_slice())
 }
 
-fn variable_name(spec: &Spec, v: usize) -> &[u8]
-    ensures { result.now ≡ name_of (data_of spec.now) v }
-{
-    match spec.variables.get(v) {
-        Some(variable) => variable.name.as_slice(),
-        None => b"",
-    }
-}
-
 /// The object of a variable at a moment.
-pub fn object_at(alloc: Global, spec: &Spec, moment: Moment, v: usize) -> Result<Name, NoMemory>
+pub(crate) fn object_at(
+    alloc: Global,
+    spec: &Spec,
+    moment: Moment,
+    v: usize,
+) -> Result<Name, NoMemory>
     ensures { IfOk result (λ n. n ≡ object_of (data_of spec.now) moment v) }
 {
     let name = variable_name(spec, v);
@@ -45,7 +42,7 @@ pub fn object_at(alloc: Global, spec: &Spec, moment: Moment, v: usize) -> Result
 }
 
 /// The function that takes a new code for a variable.
-pub fn setter_at(alloc: Global, spec: &Spec, v: usize) -> Result<Name, NoMemory>
+pub(crate) fn setter_at(alloc: Global, spec: &Spec, v: usize) -> Result<Name, NoMemory>
     ensures { IfOk result (λ n. n ≡ setter_name (name_of (data_of spec.now) v)) }
 {
     prefixed(alloc, b"set_", variable_name(spec, v))

@@ -16,7 +16,7 @@ use std::alloc::Global;
 
 /// A number, or a number times an object.
 #[derive(Debug, Drop)]
-pub struct LinearTerm {
+pub(crate) struct LinearTerm {
     pub coefficient: i64,
     pub object: Option<Name>,
 }
@@ -39,8 +39,7 @@ fn coefficient_at(spec: &Spec, factor: i64, operand: Operand) -> i64
         Operand::Truth(b) => times(factor, i64::from(b)),
         Operand::Constant(k) => times(factor, spec.constants.as_slice()[k].value),
         Operand::Label(_, code) => times(factor, code),
-        Operand::Variable(_) => factor,
-        Operand::Primed(_) => factor,
+        Operand::Variable(_) | Operand::Primed(_) => factor,
     }
 }
 
@@ -54,10 +53,7 @@ fn object_in(
     ensures { IfOk result (λ o. o ≡ object_of_operand (object_of (data_of spec.now) plain) (object_of (data_of spec.now) primed) operand) }
 {
     match operand {
-        Operand::One => Ok(None),
-        Operand::Truth(_) => Ok(None),
-        Operand::Constant(_) => Ok(None),
-        Operand::Label(_, _) => Ok(None),
+        Operand::One | Operand::Truth(_) | Operand::Constant(_) | Operand::Label(_, _) => Ok(None),
         Operand::Variable(v) => Ok(Some(object_at(alloc, spec, plain, v)?)),
         Operand::Primed(v) => Ok(Some(object_at(alloc, spec, primed, v)?)),
     }
@@ -138,38 +134,38 @@ fn negated(alloc: Global, size: u64, object: Option<Name>) -> Result<CExpr, NoMe
     }
 }
 
-fn leading(alloc: Global, w: LinearTerm) -> Result<CExpr, NoMemory>
-    requires { unsigned_abs w.coefficient ≤ 2147483647 }
-    ensures { IfOk result (λ e. e ≡ leading_expr w) }
+fn leading(alloc: Global, term: LinearTerm) -> Result<CExpr, NoMemory>
+    requires { unsigned_abs term.coefficient ≤ 2147483647 }
+    ensures { IfOk result (λ e. e ≡ leading_expr term) }
 {
-    let size = w.coefficient.unsigned_abs();
-    if w.coefficient < 0 {
-        negated(alloc, size, w.object)
+    let size = term.coefficient.unsigned_abs();
+    if term.coefficient < 0 {
+        negated(alloc, size, term.object)
     } else {
-        sized(alloc, size, w.object)
+        sized(alloc, size, term.object)
     }
 }
 
 /// What stands first in a side of several items.
-fn leading_term(alloc: Global, w: LinearTerm) -> Result<CTerm, NoMemory>
-    requires { unsigned_abs w.coefficient ≤ 2147483647 }
-    ensures { IfOk result (λ t. t ≡ first_term w) }
+fn leading_term(alloc: Global, term: LinearTerm) -> Result<CTerm, NoMemory>
+    requires { unsigned_abs term.coefficient ≤ 2147483647 }
+    ensures { IfOk result (λ t. t ≡ first_term term) }
 {
     Ok(CTerm {
         minus: false,
-        value: leading(alloc, w)?,
+        value: leading(alloc, term)?,
     })
 }
 
 /// What is added to it or taken away.
-fn later_term(alloc: Global, w: LinearTerm) -> Result<CTerm, NoMemory>
-    requires { unsigned_abs w.coefficient ≤ 2147483647 }
-    ensures { IfOk result (λ t. t ≡ next_term w) }
+fn later_term(alloc: Global, term: LinearTerm) -> Result<CTerm, NoMemory>
+    requires { unsigned_abs term.coefficient ≤ 2147483647 }
+    ensures { IfOk result (λ t. t ≡ next_term term) }
 {
-    let minus = w.coefficient < 0;
+    let minus = term.coefficient < 0;
     Ok(CTerm {
         minus,
-        value: sized(alloc, w.coefficient.unsigned_abs(), w.object)?,
+        value: sized(alloc, term.coefficient.unsigned_abs(), term.object)?,
     })
 }
 
@@ -211,7 +207,7 @@ fn push_later(
 
 /// The expression of a side, whose unprimed names are read at the moment `plain`, and whose primed
 /// names at the moment `primed`.
-pub fn side_expr(
+pub(crate) fn side_expr(
     alloc: Global,
     spec: &Spec,
     e: &Expr,

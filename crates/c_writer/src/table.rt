@@ -85,13 +85,10 @@ fn switch_stmts(
     ensures { IfOk result (λ ss. ss ≡ switched object clauses) }
 {
     let mut body = Items::new(alloc);
-    match clauses.len() {
-        0 => Ok(body),
-        _ => {
-            body.push(CStmt::Switch(CExpr::Name(object), clauses))?;
-            Ok(body)
-        }
+    if !clauses.is_empty() {
+        body.push(CStmt::Switch(CExpr::Name(object), clauses))?;
     }
+    Ok(body)
 }
 
 /// A condition table looks at its class in the new state, and any other in the old.
@@ -105,8 +102,7 @@ fn class_object(
 {
     match heading {
         Heading::Condition => object_at(alloc, spec, Moment::New, class),
-        Heading::Event => object_at(alloc, spec, Moment::Old, class),
-        Heading::Modes => object_at(alloc, spec, Moment::Old, class),
+        Heading::Event | Heading::Modes => object_at(alloc, spec, Moment::Old, class),
     }
 }
 
@@ -126,7 +122,7 @@ fn table_stmts(alloc: Global, spec: &Spec, table: &Table) -> Result<Items<CStmt>
 
 /// The statements by which a dependent variable takes its new code.
 #[tactic(auto, using(scr_spec::proofs::Found::found_laws))]
-pub fn variable_stmts(alloc: Global, spec: &Spec, v: usize) -> Result<Items<CStmt>, NoMemory>
+pub(crate) fn variable_stmts(alloc: Global, spec: &Spec, v: usize) -> Result<Items<CStmt>, NoMemory>
     ensures { IfOk result (λ ss. ss ≡ stmts_of_variable (data_of spec.now) v) }
 {
     match spec.table_of(v) {
