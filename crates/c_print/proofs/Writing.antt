@@ -1,13 +1,23 @@
 -- What is written piece by piece.
-use Rattle.std.proofs.Common.{◌≡◌, ℕ, List, ◌∷◌, ◌++◌, ap, ◌∙◌, append_assoc}
+use Rattle.std.proofs.Common.{◌≡◌, ℕ, ℤ, pos, negsuc, List, ◌∷◌, ◌++◌, refl, ap, ◌∙◌, append_assoc}
 use Rattle.std.specs.Prelude.{OnOk, Result, Ok, Err}
-use Rattle.c_print.specs.Marks.{Mark, mark_text, text}
-use Rattle.c_print.specs.Printed.{Marks}
+use Rattle.c_reader.specs.Word as w
+use Rattle.c_print.specs.Marks.{Mark, mark_text, ink, text}
+use Rattle.c_print.specs.Printed.{Marks, number_marks}
 use Rattle.c_print.specs.Appended.{Appends}
 
 -- one mark
 pub one_mark : {a b bytes : List ℕ} (mark : Mark) → b ≡ a ++ bytes → bytes ≡ mark_text mark → Appends (λ rest. mark ∷ rest) a b
 one_mark {a} mark e f = record { whole = λ rest. ap (λ b. b ++ text rest) (e ∙ ap (λ t. a ++ t) f) ∙ append_assoc a (mark_text mark) (text rest) }
+
+-- a number below 0 is spelt with its sign
+same_text : (v : ℤ) (rest : List Mark) → text (ink (w.Constant v) ∷ rest) ≡ text (number_marks v rest)
+same_text (pos n) rest = refl
+same_text (negsuc n) rest = refl
+
+-- a constant, as the number with its sign
+pub signed : {a b : List ℕ} (v u : ℤ) → Appends (λ rest. ink (w.Constant u) ∷ rest) a b → u ≡ v → Appends (number_marks v) a b
+signed {a} v u p e = record { whole = λ rest. p.whole rest ∙ ap (λ t. a ++ t) (same_text u rest ∙ ap (λ z. text (number_marks z rest)) e) }
 
 -- one after another
 pub both : {a b c : List ℕ} (m n : Marks) → Appends m a b → Appends n b c → Appends (λ rest. m (n rest)) a c

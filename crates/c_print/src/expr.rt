@@ -12,7 +12,7 @@ use scr_text::{NoMemory, Relation};
 
 // How tight forms bind, as the grammar of C11 nests them (6.5): a place that wants one of these takes that form and each
 // tighter one as it is, and any other in parentheses.
-const OR: usize = 0;
+pub(crate) const OR: usize = 0;
 
 const AND: usize = 1;
 

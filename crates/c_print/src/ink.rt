@@ -128,13 +128,6 @@ pub(crate) fn push_indent(out: &mut Vec<u8>, depth: usize) -> Result<(), NoMemor
     Ok(())
 }
 
-/// Writes a number with its sign.
-pub(crate) fn push_signed(out: &mut Vec<u8>, value: &i64) -> Result<(), NoMemory>
-    ensures { OnOk result (spec.Appends (printed.number_marks value.now) out.old.items out.new.items) }
-{
-    push_constant(out, *value)
-}
-
 /// Ends a statement, and its line.
 pub(crate) fn push_end(out: &mut Vec<u8>) -> Result<(), NoMemory>
     ensures { OnOk result (spec.Appends spec.end_marks out.old.items out.new.items) }

@@ -5,10 +5,10 @@ ghost use Rattle.c_print.specs.Appended as spec;
 ghost use Rattle.c_print.specs.Printed as printed;
 ghost use Rattle.c_subset.specs.declared.stmt.CStmt.TheVariants as st;
 
-use crate::expr::push_expr;
+use crate::expr::{OR, push_expr};
 use crate::ink::{
-    push_between, push_end, push_feed, push_indent, push_keyword, push_name, push_sign,
-    push_signed, push_space,
+    push_between, push_constant, push_end, push_feed, push_indent, push_keyword, push_name,
+    push_sign, push_space,
 };
 use c_reader::{Keyword, Sign};
 use c_subset::{CClause, CExpr, CStmt};
@@ -29,7 +29,7 @@ fn push_test(out: &mut Vec<u8>, expression: &CExpr) -> Result<(), NoMemory>
     ensures { OnOk result (spec.Appends (spec.test_marks expression.now) out.old.items out.new.items) }
 {
     push_sign(out, Sign::OpenParen)?;
-    push_expr(out, expression, 0)?;
+    push_expr(out, expression, OR)?;
     push_sign(out, Sign::CloseParen)
 }
 
@@ -39,7 +39,7 @@ fn push_assign(out: &mut Vec<u8>, name: &Name, value: &CExpr, depth: usize) -> R
     push_indent(out, depth)?;
     push_name(out, name)?;
     push_between(out, Sign::Assign)?;
-    push_expr(out, value, 0)?;
+    push_expr(out, value, OR)?;
     push_end(out)
 }
 
@@ -47,7 +47,7 @@ fn push_argument(out: &mut Vec<u8>, argument: &Option<CExpr>) -> Result<(), NoMe
     ensures { OnOk result (spec.Appends (printed.argument_marks argument.now) out.old.items out.new.items) }
 {
     match argument {
-        Some(expression) => push_expr(out, expression, 0),
+        Some(expression) => push_expr(out, expression, OR),
         None => Ok(()),
     }
 }
@@ -82,13 +82,13 @@ fn push_stop(out: &mut Vec<u8>, stops: bool, depth: usize) -> Result<(), NoMemor
 }
 
 /// Writes the line of a label.
-fn push_label(out: &mut Vec<u8>, label: &i64, depth: usize) -> Result<(), NoMemory>
-    ensures { OnOk result (spec.Appends (spec.label_marks label.now depth) out.old.items out.new.items) }
+fn push_label(out: &mut Vec<u8>, label: i64, depth: usize) -> Result<(), NoMemory>
+    ensures { OnOk result (spec.Appends (spec.label_marks label depth) out.old.items out.new.items) }
 {
     push_indent(out, depth)?;
     push_keyword(out, Keyword::Case)?;
     push_space(out)?;
-    push_signed(out, label)?;
+    push_constant(out, label)?;
     push_sign(out, Sign::Colon)?;
     push_feed(out)
 }
@@ -215,7 +215,7 @@ fn push_clause_row(out: &mut Vec<u8>, clauses: &[CClause], depth: usize) -> Resu
 fn push_clause(out: &mut Vec<u8>, clause: &CClause, depth: usize) -> Result<(), NoMemory>
     ensures { OnOk result (spec.Appends (spec.clause_text clause.now depth) out.old.items out.new.items) }
 {
-    push_label(out, &clause.label, depth)?;
+    push_label(out, clause.label, depth)?;
     push_row(out, clause.body.as_slice(), depth)?;
     push_stop(out, clause.stops, depth)
 }

@@ -7,7 +7,8 @@ ghost use Rattle.c_print.specs.Appended as spec;
 ghost use Rattle.c_print.specs.Printed as printed;
 
 use crate::ink::{
-    push_between, push_end, push_feed, push_keyword, push_name, push_sign, push_signed, push_space,
+    push_between, push_constant, push_end, push_feed, push_keyword, push_name, push_sign,
+    push_space,
 };
 use crate::stmt::push_block;
 use c_reader::{Keyword, Sign};
@@ -29,7 +30,7 @@ fn push_object(out: &mut Vec<u8>, object: &CObject) -> Result<(), NoMemory>
 {
     push_named(out, Keyword::Long, &object.name)?;
     push_between(out, Sign::Assign)?;
-    push_signed(out, &object.init)?;
+    push_constant(out, object.init)?;
     push_end(out)
 }
 
