@@ -34,9 +34,7 @@ pub fn respond_fileless<J: FilelessJob, K: Sink>(
     ensures not_read { ¬ IsErrOf result Stop.Read }
     ensures write_cause { IsErrOf result Stop.Write → HasRisen (K.faults out.old) (K.faults out.new) }
 {
-    let Ok((text, status)) = job.answer(alloc) else {
-        return Err(Stop::NoMemory);
-    };
+    let (text, status) = job.answer(alloc)?;
     put(out, text.as_slice())?;
     Ok(status)
 }

@@ -52,9 +52,7 @@ pub fn respond<J: Job, S: Shelf, K: Sink>(
         → ¬ IsErrOf result Stop.Read }
 {
     let file = load(alloc, shelf, name, job.limit())?;
-    let Ok((text, status)) = job.answer(alloc, file) else {
-        return Err(Stop::NoMemory);
-    };
+    let (text, status) = job.answer(alloc, file)?;
     put(out, text.as_slice())?;
     Ok(status)
 }
