@@ -3,6 +3,7 @@ ghost use Rattle.std.specs.Prelude.{◌≡◌};
 ghost use Rattle.scr_script.specs.Words.{words_of};
 ghost use Rattle.scr_history.specs.StepBack.{has_zero_in_front, is_count, count_in, words_back, count_back};
 
+use crate::history::DEPTH;
 use scr_script::{are_digits, body_of, cut_word, first_and_rest, is_readable};
 use scr_text::number_of;
 
@@ -19,7 +20,7 @@ fn has_zero_in_front(word: &[u8]) -> bool
 fn is_count(word: &[u8]) -> bool
     ensures { result ≡ is_count word.now }
 {
-    are_digits(word) && !has_zero_in_front(word) && number_of(word) <= 256
+    are_digits(word) && !has_zero_in_front(word) && number_of(word) as usize <= DEPTH
 }
 
 fn count_in(first: &[u8], word: &[u8]) -> Option<usize>

@@ -21,7 +21,7 @@ use std::alloc::Global;
 use std::mem;
 
 /// The greatest number of states to which a script may step back.
-const DEPTH: usize = 256;
+pub(crate) const DEPTH: usize = 256;
 
 /// A specification that runs, and that can step back. Its type keeps that the earlier states and the
 /// present one are the last states of a run, and that the number is that of its inputs.
