@@ -32,17 +32,17 @@ use Rattle.scr_replay.proofs.Steps.{adds, takes, passes, refuses}
 -- ---- steps back
 
 -- a list that has any member ends in one
-parted : {X : Type 0} (xs : List X) → 0 < length xs → (front : List X) × (last : X) × (xs ≡ front ++ last ∷ [])
-parted [] some = absurd (omega (arith, some))
-parted (x ∷ []) some = ([], x, refl)
-parted (x ∷ y ∷ xs) some =
-    let rest = parted (y ∷ xs) (omega arith) in
+front_and_last : {X : Type 0} (xs : List X) → 0 < length xs → (front : List X) × (last : X) × (xs ≡ front ++ last ∷ [])
+front_and_last [] some = absurd (omega (arith, some))
+front_and_last (x ∷ []) some = ([], x, refl)
+front_and_last (x ∷ y ∷ xs) some =
+    let rest = front_and_last (y ∷ xs) (omega arith) in
     (x ∷ rest.0, rest.1, ap (λ ys. x ∷ ys) rest.2)
 
 -- one step back is there where any earlier state is kept
 one_back : (k : Kept) → 0 < length k.earlier → 0 < k.number → (new : Kept) × GoesBack 1 k new
 one_back k some counted =
-    let p = parted k.earlier some in
+    let p = front_and_last k.earlier some in
     (kept p.0 p.1 (k.number - 1), record { taken = k.at ∷ []; many = refl; states = ap (λ xs. xs ++ k.at ∷ []) p.2; number = omega (arith, counted) })
 
 -- and so are as many as there are such states
