@@ -4,7 +4,7 @@ ghost use Rattle.dd_store.specs.declared.store.TheConstants.{NODE_LIMIT};
 
 use crate::judging::assert_text;
 use crate::reading::unread_line;
-use scr_checking::{Checking, check_file};
+use scr_checking::check_file;
 use scr_depend::Checked;
 use scr_io::{Shelf, Sink};
 use scr_job::{Command, First, Job, Loaded, Status, Stop, respond};
@@ -74,10 +74,7 @@ impl Command for Assert {
     }
 
     fn first(&self, alloc: Global, file: Loaded) -> Result<First<Checked>, NoMemory> {
-        match check_file(alloc, &file, self.nodes)? {
-            Checking::Passed(checked) => Ok(First::Base(checked)),
-            Checking::Finished(report, status) => Ok(First::Answer(report, status)),
-        }
+        Ok(check_file(alloc, &file, self.nodes)?.into())
     }
 
     fn go_on<S: Shelf, K: Sink>(

@@ -9,14 +9,16 @@ use Rattle.scr_depend.specs.declared.order.Order.{Order}
 use Rattle.scr_depend.specs.Passes.{PassesChecks}
 use Rattle.scr_job.specs.declared.status.Status.{Status}
 use Rattle.scr_job.specs.declared.whole.Loaded.{Loaded}
+use Rattle.scr_job.specs.Command.{IsFirst, IsOwnFirst}
 use Rattle.scr_job.specs.Ends.{IsFront, HasFront}
 use Rattle.scr_job.specs.Load.{IsLoaded}
 use Rattle.scr_job.proofs.CommandLemmas.{loaded_file}
 use Rattle.scr_job.proofs.EndsLemmas.{by_file_once, by_file_some}
 use Rattle.scr_job.proofs.WalkLemmas.{front_of}
-use Rattle.scr_checking.specs.declared.checking.Checking.TheVariants.{Passed}
+use Rattle.scr_checking.specs.declared.checking.Checking.{Checking}
+use Rattle.scr_checking.specs.declared.checking.Checking.TheVariants.{Passed, Finished}
 use Rattle.scr_checking.specs.Reports.{ChecksText}
-use Rattle.scr_checking.specs.Checking.{EndsCommand, IsChecking, ChecksFirst, finished, passed, ScriptAnswers, ReachesScript}
+use Rattle.scr_checking.specs.Checking.{EndsCommand, IsFinal, IsChecking, ChecksFirst, finished, passed, ScriptAnswers, ReachesScript, first_of}
 use Rattle.scr_checking.proofs.Checks.{passes_checks}
 use Rattle.scr_checking.proofs.First.{first_once, first_some}
 
@@ -43,7 +45,7 @@ script_some own limit held script some =
 -- ---- of the first file
 
 -- where the text passes, what answers the script answers both files
-pub passed_first : (own : Own) (limit : ℕ) (file : Loaded) (checked : Checked) → ((text : List ℕ) → IsLoaded TEXT_LIMIT (Some text) file → IsChecking limit text (Passed checked))
+passed_first : (own : Own) (limit : ℕ) (file : Loaded) (checked : Checked) → ((text : List ℕ) → IsLoaded TEXT_LIMIT (Some text) file → IsChecking limit text (Passed checked))
     → (held : Option (List ℕ)) → IsLoaded TEXT_LIMIT held file → ReachesScript limit held
     × ((script : Option (List ℕ)) (bytes : List ℕ) (status : Status) → own (data_of checked.spec) script bytes status → ScriptAnswers own limit held script bytes status)
 passed_first own limit file checked is held loaded =
@@ -52,7 +54,17 @@ passed_first own limit file checked is held loaded =
     (λ text l. ((data_of checked.spec, checked.order, is text l), λ script bytes status mine. passed (data_of checked.spec) checked.order (is text l) mine))
 
 -- and where it does not, its report does
-pub finished_first : (own : Own) (limit : ℕ) (file : Loaded) (out : List ℕ) (status : Status) → ((text : List ℕ) → IsLoaded TEXT_LIMIT (Some text) file → ChecksText limit text out status)
+finished_first : (own : Own) (limit : ℕ) (file : Loaded) (out : List ℕ) (status : Status) → ((text : List ℕ) → IsLoaded TEXT_LIMIT (Some text) file → ChecksText limit text out status)
     → EndsCommand status → (held : Option (List ℕ)) → IsLoaded TEXT_LIMIT held file → (script : Option (List ℕ)) → ScriptAnswers own limit held script out status
 finished_first own limit file out status is ends held loaded =
     loaded_file TEXT_LIMIT (λ h. (script : Option (List ℕ)) → ScriptAnswers own limit h script out status) held file loaded (λ text l script. finished (is text l) ends.other)
+
+-- so what checking the first file gives is what the first file makes of the command
+pub checked_first : (own : Own) (limit : ℕ) (file : Loaded) (checking : Checking) → ((text : List ℕ) → IsLoaded TEXT_LIMIT (Some text) file → IsChecking limit text checking) → IsFinal checking
+    → (held : Option (List ℕ)) → IsLoaded TEXT_LIMIT held file → IsFirst (ScriptAnswers own limit held) (ReachesScript limit held) (λ (checked : Checked). own (data_of checked.spec)) (first_of checking)
+checked_first own limit file (Passed checked) is final = passed_first own limit file checked is
+checked_first own limit file (Finished report status) is final = finished_first own limit file report.items status is final
+
+pub own_first : (checking : Checking) → IsFinal checking → IsOwnFirst (first_of checking)
+own_first (Passed checked) final = tt
+own_first (Finished report status) final = final.own

@@ -3,8 +3,11 @@ use Rattle.std.specs.Prelude.{◌≡◌, ◌≢◌, ℕ, ⊤, List, Option, Some
 use Rattle.scr_spec.specs.Data.{Data}
 use Rattle.scr_spec.specs.Shown.{data_of}
 use Rattle.scr_types.specs.Texts.{Spells}
+use Rattle.scr_depend.specs.declared.checked.Checked.{Checked}
 use Rattle.scr_depend.specs.declared.order.Order.{Order}
 use Rattle.scr_verdict.specs.Outcomes.{IsPassed}
+use Rattle.scr_job.specs.declared.command.First.{First}
+use Rattle.scr_job.specs.declared.command.First.TheVariants.{Answer, Base}
 use Rattle.scr_job.specs.declared.status.Status.{Status}
 use Rattle.scr_job.specs.declared.status.Status.TheVariants.{Done}
 use Rattle.scr_job.specs.Ends.{ByFile, is_own}
@@ -48,6 +51,11 @@ pub data ChecksFirst (own : Data → List ℕ → Status → Type 0) (limit : �
 -- what a command that checks first answers for its files: for a specification that passes, what it has of its own for the second one
 abbrev pub ScriptAnswers : (Data → Option (List ℕ) → List ℕ → Status → Type 0) → ℕ → Option (List ℕ) → Option (List ℕ) → List ℕ → Status → Type 0
 ScriptAnswers own limit held script = ByFile (ChecksFirst (λ spec. own spec script) limit) held
+
+-- what checking the first file makes of the command
+abbrev pub first_of : Checking → First Checked
+first_of (Passed checked) = Base checked
+first_of (Finished report status) = Answer report status
 
 -- the second file is reached where the text passes
 abbrev pub ReachesScript : ℕ → Option (List ℕ) → Type 0

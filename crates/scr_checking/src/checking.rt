@@ -15,7 +15,7 @@ ghost use Rattle.dd_store.specs.declared.store.TheConstants.{NODE_LIMIT};
 use crate::spelling::{Spelling, spell_file, spell_text};
 use crate::verdicts::{push_lines, push_yes_lines, verdicts_status};
 use scr_depend::{Checked, Order};
-use scr_job::{Loaded, Status};
+use scr_job::{First, Loaded, Status};
 use scr_report::{push_cycle, push_order};
 use scr_spec::Spec;
 use scr_text::NoMemory;
@@ -29,6 +29,20 @@ pub enum Checking {
     Passed(Checked),
     /// The whole report, and how the command ends with it, which is not `Done`.
     Finished(Vec<u8>, Status),
+}
+
+/// As the first of two files: the report ends the command, and a specification that passed answers the second one.
+impl From<Checking> for First<Checked> {
+    ghost use Rattle.scr_checking.specs.Checking.{first_of};
+
+    ghost from_gives = { λ checking first. first ≡ first_of checking };
+
+    fn from(checking: Checking) -> Self {
+        match checking {
+            Checking::Passed(checked) => First::Base(checked),
+            Checking::Finished(report, status) => First::Answer(report, status),
+        }
+    }
 }
 
 /// The cycle.

@@ -3,7 +3,7 @@ ghost use Rattle.std.specs.Prelude.{◌≤◌, false};
 ghost use Rattle.dd_store.specs.declared.store.TheConstants.{NODE_LIMIT};
 
 use crate::replaying::Replaying;
-use scr_checking::{Checking, check_file};
+use scr_checking::check_file;
 use scr_depend::Checked;
 use scr_io::{Shelf, Sink};
 use scr_job::{Command, First, Loaded, Status, Stop, answer_lines};
@@ -41,10 +41,7 @@ impl Command for Replay {
     }
 
     fn first(&self, alloc: Global, file: Loaded) -> Result<First<Checked>, NoMemory> {
-        match check_file(alloc, &file, self.nodes)? {
-            Checking::Passed(checked) => Ok(First::Base(checked)),
-            Checking::Finished(report, status) => Ok(First::Answer(report, status)),
-        }
+        Ok(check_file(alloc, &file, self.nodes)?.into())
     }
 
     fn go_on<S: Shelf, K: Sink>(

@@ -1,22 +1,10 @@
-use Rattle.std.proofs.Common.{ℕ, List, Some}
-use Rattle.scr_reader.specs.declared.text.TheConstants.{TEXT_LIMIT}
-use Rattle.scr_job.specs.Load.{IsLoaded}
-use Rattle.scr_checking.specs.declared.checking.Checking.TheVariants.{Passed}
-use Rattle.scr_checking.specs.Checking.{EndsCommand, IsChecking}
-use Rattle.scr_checking.specs.Reports.{ChecksText}
-use Rattle.scr_checking.proofs.Scripts.{passed_first, finished_first}
+use Rattle.scr_checking.proofs.Scripts.{checked_first, own_first}
 use Rattle.scr_coverage.specs.Covers.{CoversFile}
 use Rattle.scr_coverage.proofs.cover.CoverCommand.first.Goals as goal
 
-pub returns-in-Passed-clause-exact : goal.returns-in-Passed-clause-exact
-returns-in-Passed-clause-exact c =
-    let passed : (text : List ℕ) → IsLoaded TEXT_LIMIT (Some text) c.args.file → IsChecking c.args.self.now.nodes text (Passed c.in-Passed.checked) =
-    rw c.in-Passed.is at c.in_ok-checked.ensures.exact in
-    passed_first CoversFile c.args.self.now.nodes c.args.file c.in-Passed.checked passed
-
 pub returns-clause-exact : goal.returns-clause-exact
 returns-clause-exact c =
-    let finished : (text : List ℕ) → IsLoaded TEXT_LIMIT (Some text) c.args.file → ChecksText c.args.self.now.nodes text c.in-Finished.report.items c.in-Finished.status =
-    rw c.in-Finished.is at c.in_ok-checked.ensures.exact in
-    let ends : EndsCommand c.in-Finished.status = rw c.in-Finished.is at c.in_ok-checked.ensures.ending in
-    finished_first CoversFile c.args.self.now.nodes c.args.file c.in-Finished.report.items c.in-Finished.status finished ends
+    rw c.into.ensures (checked_first CoversFile c.args.self.now.nodes c.args.file _ c.in_ok-check_file.ensures.exact c.in_ok-check_file.ensures.ending)
+
+pub returns-clause-own : goal.returns-clause-own
+returns-clause-own c = rw c.into.ensures (own_first _ c.in_ok-check_file.ensures.ending)
