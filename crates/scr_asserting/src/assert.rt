@@ -21,7 +21,7 @@ pub struct Assert {
 
 /// The second file of the command, which holds assertions on a specification that passed its checks.
 #[derive(Drop)]
-pub struct Asserted<'a> {
+pub(crate) struct Asserted<'a> {
     pub nodes: u32,
     pub checked: &'a Checked,
     pub ghost limited: { nodes ≤ NODE_LIMIT },

@@ -7,5 +7,5 @@ mod law;
 mod reading;
 mod text;
 
-pub use assert::{Assert, Asserted};
+pub use assert::Assert;
 pub use law::one_assertion;

@@ -17,7 +17,7 @@ use std::alloc::Global;
 
 /// The coverage of a script between two of its lines.
 #[derive(Drop)]
-pub struct Covering<'a> {
+pub(crate) struct Covering<'a> {
     pub simulator: Simulator<'a>,
     pub tally: Tally<'a>,
     // behind `∥ ∥₁`, since no test tells whether two specifications are one
@@ -27,7 +27,7 @@ pub struct Covering<'a> {
 
 impl<'a> Covering<'a> {
     /// The coverage before the first line.
-    pub fn new(alloc: Global, checked: &'a Checked) -> Result<Covering<'a>, NoMemory>
+    pub(crate) fn new(alloc: Global, checked: &'a Checked) -> Result<Covering<'a>, NoMemory>
         ensures same { IfOk result (λ c. c.simulator.checked.now ≡ checked.now) }
         ensures initial { IfOk result (λ c. IsInitial (data_of checked.now.spec) c.simulator.state.codes) }
         ensures none { IfOk result (λ c. IsTally (data_of checked.now.spec) c.simulator.state.codes [] c.tally.counts c.tally.at.codes c.tally.notes) }

@@ -7,5 +7,4 @@ mod law;
 mod text;
 
 pub use cover::Cover;
-pub use covering::Covering;
 pub use law::one_coverage;

@@ -4,7 +4,7 @@ use scr_invariants::Derived;
 
 /// What was derived for the class with this number.
 #[derive(Debug, Drop)]
-pub struct Derivation {
+pub(crate) struct Derivation {
     pub class: usize,
     pub derived: Derived,
 }

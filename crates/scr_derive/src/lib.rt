@@ -8,7 +8,6 @@ mod invariants;
 mod law;
 mod text;
 
-pub use derivation::Derivation;
 pub use invariants::Invariants;
 pub use law::one_derivation;
 pub use text::push_derived;

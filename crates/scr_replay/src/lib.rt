@@ -7,4 +7,3 @@ mod replaying;
 
 pub use law::one_replay;
 pub use replay::Replay;
-pub use replaying::Replaying;

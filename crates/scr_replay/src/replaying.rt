@@ -15,13 +15,13 @@ use std::alloc::Global;
 
 /// A replay between two lines of its script.
 #[derive(Drop)]
-pub struct Replaying<'a> {
+pub(crate) struct Replaying<'a> {
     pub history: History<'a>,
 }
 
 impl<'a> Replaying<'a> {
     /// A replay that stands at the initial state.
-    pub fn new(alloc: Global, checked: &'a Checked) -> Result<Replaying<'a>, NoMemory>
+    pub(crate) fn new(alloc: Global, checked: &'a Checked) -> Result<Replaying<'a>, NoMemory>
         ensures same { IfOk result (λ r. r.history.checked.now ≡ checked.now) }
         ensures initial { IfOk result (λ r. IsInitial (data_of checked.now.spec) r.history.state.codes) }
         ensures none { IfOk result (λ r. (r.history.earlier.items ≡ []) × (r.history.number ≡ 0)) }

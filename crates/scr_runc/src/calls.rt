@@ -14,7 +14,7 @@ use std::alloc::Global;
 
 /// A unit between two lines of a file of calls.
 #[derive(Drop)]
-pub struct Calls<'a> {
+pub(crate) struct Calls<'a> {
     pub unit: &'a CUnit,
     pub machine: Machine<'a>,
     /// How many calls were made.
@@ -23,7 +23,7 @@ pub struct Calls<'a> {
 
 impl<'a> Calls<'a> {
     /// A unit whose objects have their initial numbers.
-    pub fn new(alloc: Global, unit: &'a CUnit) -> Result<Calls<'a>, NoMemory>
+    pub(crate) fn new(alloc: Global, unit: &'a CUnit) -> Result<Calls<'a>, NoMemory>
         ensures unit { IfOk result (λ calls. calls.unit.now ≡ unit.now) }
         ensures machine { IfOk result (λ calls. calls.machine ≡ record { unit = unit.now; objects = initial_objects unit.now }) }
         ensures first { IfOk result (λ calls. calls.count ≡ 0) }

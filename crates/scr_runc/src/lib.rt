@@ -10,7 +10,6 @@ mod tests;
 mod texts;
 
 pub use call::{Taken, take_line};
-pub use calls::Calls;
 pub use command::{C_LIMIT, RunC};
 pub use law::one_answer_of_calls;
 pub use texts::push_objects;

@@ -7,4 +7,3 @@ mod simulation;
 
 pub use law::one_simulation;
 pub use simulate::Simulate;
-pub use simulation::Simulation;

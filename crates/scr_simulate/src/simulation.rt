@@ -14,7 +14,7 @@ use std::alloc::Global;
 
 /// A simulation between two lines of its script.
 #[derive(Drop)]
-pub struct Simulation<'a> {
+pub(crate) struct Simulation<'a> {
     pub simulator: Simulator<'a>,
     /// The number of the present state, from 0.
     pub count: u64,
@@ -22,7 +22,7 @@ pub struct Simulation<'a> {
 
 impl<'a> Simulation<'a> {
     /// A simulation that stands at the initial state.
-    pub fn new(alloc: Global, checked: &'a Checked) -> Result<Simulation<'a>, NoMemory>
+    pub(crate) fn new(alloc: Global, checked: &'a Checked) -> Result<Simulation<'a>, NoMemory>
         ensures same { IfOk result (λ s. s.simulator.checked.now ≡ checked.now) }
         ensures initial { IfOk result (λ s. IsInitial (data_of checked.now.spec) s.simulator.state.codes) }
         ensures first { IfOk result (λ s. s.count ≡ 0) }
