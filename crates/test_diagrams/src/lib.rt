@@ -9,6 +9,3 @@ mod stores;
 mod tests;
 
 pub use large::{Repeated, atom_again, conjunction_again, disjunction_of_booleans, sum_below};
-pub use small::{
-    Least, least_of_false, least_sum, never_positive, noted_negation, pair_and_negation,
-};

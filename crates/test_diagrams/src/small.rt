@@ -12,7 +12,7 @@ use std::alloc::Global;
 
 /// What `least` found, and how many nodes the store had.
 #[derive(Debug, Drop)]
-pub struct Least {
+pub(crate) struct Least {
     pub count: u32,
     pub found: bool,
     pub codes: Vec<i64>,
@@ -20,7 +20,7 @@ pub struct Least {
 
 /// How many nodes there are after the conjunction of two Booleans on levels 0 and 2 of 4, and how many
 /// after its negation.
-pub fn pair_and_negation(alloc: Global, limit: u32) -> Result<(u32, u32), StoreFault>
+pub(crate) fn pair_and_negation(alloc: Global, limit: u32) -> Result<(u32, u32), StoreFault>
     requires { limit ≤ 40000 }
 {
     let mut store = equal_levels(alloc, 4, 1, limit)?;
@@ -33,7 +33,7 @@ pub fn pair_and_negation(alloc: Global, limit: u32) -> Result<(u32, u32), StoreF
 }
 
 /// The least codes from 0 to 3 of two levels whose sum is 3.
-pub fn least_sum(alloc: Global) -> Result<Least, StoreFault> {
+pub(crate) fn least_sum(alloc: Global) -> Result<Least, StoreFault> {
     let mut store = equal_levels(alloc, 2, 3, 40000)?;
     let terms = [
         Term {
@@ -56,7 +56,7 @@ pub fn least_sum(alloc: Global) -> Result<Least, StoreFault> {
 }
 
 /// Whether a code less itself is at most 0 is the leaf true, and how many nodes there are.
-pub fn never_positive(alloc: Global) -> Result<(bool, u32), StoreFault> {
+pub(crate) fn never_positive(alloc: Global) -> Result<(bool, u32), StoreFault> {
     let mut store = equal_levels(alloc, 1, 3, 40000)?;
     let terms = [
         Term {
@@ -73,7 +73,7 @@ pub fn never_positive(alloc: Global) -> Result<(bool, u32), StoreFault> {
 }
 
 /// What `least` makes of codes 7 and 8 at the leaf false.
-pub fn least_of_false(alloc: Global) -> Result<Least, StoreFault> {
+pub(crate) fn least_of_false(alloc: Global) -> Result<Least, StoreFault> {
     let store = equal_levels(alloc, 2, 3, 40000)?;
     let mut codes = places(alloc, &[7, 8])?;
     let found = least(&store, Store::leaf(false), codes.as_mut_slice());
@@ -86,7 +86,7 @@ pub fn least_of_false(alloc: Global) -> Result<Least, StoreFault> {
 
 /// Whether the memo of a new store has no answer for the negation of the leaf true, and has the leaf
 /// false once that was noted.
-pub fn noted_negation(alloc: Global) -> Result<(bool, bool), StoreFault> {
+pub(crate) fn noted_negation(alloc: Global) -> Result<(bool, bool), StoreFault> {
     let mut store = equal_levels(alloc, 0, 1, 40000)?;
     let yes = Store::leaf(true);
     let no = Store::leaf(false);

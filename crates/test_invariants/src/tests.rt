@@ -2,14 +2,11 @@
 ghost use Rattle.std.specs.Prelude.{◌≤◌};
 
 use scr_candidates::Candidate;
-use scr_depend::Checked;
 use scr_invariants::{Derived, derive, is_class};
-use scr_reader::read;
-use scr_spec::{Cond, Spec};
-use scr_types::resolve;
-use scr_verdict::{Outcome, check};
+use scr_spec::Cond;
 use std::alloc::Global;
 use std::test::Fail;
+use test_runs::checked;
 
 const ENGINE: &str =
     "SPECIFICATION Motor\nMONITORED Key : BOOLEAN INIT FALSE\nMONITORED Start : BOOLEAN INIT FALSE\nMODECLASS Engine = { Off, Ready, Run } INIT Off\nMODES Engine\nFROM Off TO Ready : @T(Key)\nFROM Ready TO Off : @F(Key)\nFROM Ready TO Run : @T(Start)\nFROM Run TO Off : @F(Key)\nEND\nFINISH\n";
@@ -17,30 +14,10 @@ const ENGINE: &str =
 const SWITCH: &str =
     "SPECIFICATION Switch\nMONITORED k : BOOLEAN INIT FALSE\nMODECLASS M = { A, B } INIT A\nMODES M\nFROM A TO B : @T(k)\nEND\nFINISH\n";
 
-#[tactic(auto, using(scr_reader::proofs::ReadableTexts::reads_readable))]
-fn specification(alloc: Global, text: &[u8]) -> Result<Spec, Fail> {
-    match read(alloc, text) {
-        Ok(draft) => match resolve(alloc, &draft) {
-            Ok(spec) => Ok(spec),
-            Err(_) => Err("no specification".into()),
-        },
-        Err(_) => Err("no draft".into()),
-    }
-}
-
-fn checked(alloc: Global, text: &str) -> Result<Checked, Fail> {
-    let spec = specification(alloc, text.as_bytes())?;
-    match check(alloc, spec, 40_000) {
-        Ok(Outcome::Passed(checked)) => Ok(checked),
-        Ok(_) => Err("a table fails".into()),
-        Err(_) => Err("no memory".into()),
-    }
-}
-
 fn derived(alloc: Global, text: &str, class: usize, limit: u32) -> Result<Derived, Fail>
     requires { limit ≤ 40000 }
 {
-    let checked = checked(alloc, text)?;
+    let checked = checked(alloc, text.as_bytes()).ok_or("it does not pass")?;
     if !is_class(checked.spec(), class) {
         return Err("no class".into());
     }
