@@ -8,7 +8,7 @@ use scr_reader::TEXT_LIMIT;
 use scr_text::NoMemory;
 use std::alloc::Global;
 
-/// The command `check`, with the limit on the distinct nodes of each table.
+/// The command `check`, with the limit on the distinct splits of each table.
 #[derive(Drop)]
 pub(crate) struct Check {
     pub(crate) nodes: u32,

@@ -13,7 +13,7 @@ use scr_spec::VARIABLE_LIMIT;
 /// A form of words: the command, and what its words are. Its file names stand at fixed places.
 #[derive(Clone, Copy, Debug, PartialEq, Eq)]
 pub enum Form {
-    /// `check F` and `check F LIMIT`, with the limit on the distinct nodes of each table.
+    /// `check F` and `check F LIMIT`, with the limit on the distinct splits of each table.
     Check { limit: u32 },
     /// `simulate F S` and `simulate F S LIMIT`, likewise.
     Simulate { limit: u32 },
@@ -29,7 +29,7 @@ pub enum Form {
     Generate { last: u32 },
     /// `large N`, likewise.
     Large { last: u32 },
-    /// `cover F S` and `cover F S LIMIT`, with the limit on the distinct nodes of each table.
+    /// `cover F S` and `cover F S LIMIT`, with the limit on the distinct splits of each table.
     Cover { limit: u32 },
     /// `replay F S` and `replay F S LIMIT`, likewise.
     Replay { limit: u32 },

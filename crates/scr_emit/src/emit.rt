@@ -14,7 +14,7 @@ use scr_reader::TEXT_LIMIT;
 use scr_text::NoMemory;
 use std::alloc::Global;
 
-/// The command `emit`, with the limit on the distinct nodes of each table.
+/// The command `emit`, with the limit on the distinct splits of each table.
 #[derive(Drop)]
 pub struct Emit {
     pub nodes: u32,

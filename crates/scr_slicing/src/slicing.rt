@@ -16,7 +16,7 @@ use scr_slice::{kept, slice};
 use scr_text::NoMemory;
 use std::alloc::Global;
 
-/// The command `slice`, with the words that name variables, and the limit on the distinct nodes of each
+/// The command `slice`, with the words that name variables, and the limit on the distinct splits of each
 /// table.
 #[derive(Drop)]
 pub struct Slice<'a> {
