@@ -199,9 +199,9 @@ pub fn one_answer()
     ensures { OneAnswer }
 {}
 
-/// Words whose files are there, and whose first file is accepted, end with `Done`, or with what the second file, the
-/// names or the limit gives. So `check`, `emit`, `format` and `generate` end with `Done`, and so does `invariants` where
-/// each class is decided.
+/// Words end with `Done` where nothing is found that another status tells: the files are there and accepted, all verdicts
+/// are yes, each class is decided, no line is faulty, no call overflows, and each name is a variable's. Where the files are
+/// there and the first one is accepted, they end with `Done`, or with what the second file, the names or the limit gives.
 pub fn accepted_ends()
     ensures { AcceptedEnds }
 {}
@@ -226,7 +226,7 @@ pub fn printed_asserted()
 {}
 
 /// What `slice` writes with `Done` is the slice that the named variables need: it keeps all rules, passes all
-/// checks, and its runs are those of the whole.
+/// checks, and each run of the whole is its run on the variables that are kept.
 pub fn printed_slice()
     ensures { PrintedSlice }
 {}
