@@ -16,8 +16,8 @@ _scr() {
     local word=${COMP_WORDS[COMP_CWORD]} command=${COMP_WORDS[1]-}
     COMPREPLY=()
     case $COMP_CWORD:$command in
-    1:*)
-        mapfile -t COMPREPLY < <(compgen -W 'check simulate replay cover invariants assert slice emit runc format generate large --help --version' -- "$word")
+    1:* | 2:help)
+        mapfile -t COMPREPLY < <(compgen -W 'check simulate replay cover invariants assert slice emit runc format generate large help --help --version' -- "$word")
         ;;
     2:runc) _scr_files "$word" c ;;
     2:check | 2:simulate | 2:replay | 2:cover | 2:invariants | 2:assert | 2:slice | 2:emit | 2:format) _scr_files "$word" scr ;;
