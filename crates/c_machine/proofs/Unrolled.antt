@@ -3,7 +3,7 @@ use Rattle.std.specs.Prelude.{◌≡◌, ℕ, ℤ, Bool, not, List, map, Option,
 use Rattle.std.specs.Option.{option_map}
 use Rattle.std.proofs.lemmas.Simd.{map-map}
 use Rattle.std.proofs.Common.{refl, sym, ap, ◌∙◌}
-use Rattle.scr_text.specs.declared.word.Relation.{Relation}
+use Rattle.base.specs.declared.relation.Relation.{Relation}
 use Rattle.c_subset.specs.Parts.{Term}
 use Rattle.c_subset.specs.Meaning.{Objects, Meaning, number_in, truth_in, of_number, of_truth, negative, product_of, sum_of, relates, all_true, some_true}
 use Rattle.c_subset.specs.Unrolled.{map_same}

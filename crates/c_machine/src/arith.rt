@@ -4,7 +4,7 @@ ghost use Rattle.std.specs.Prelude.{◌≡◌, ◌+ℤ◌, ◌-ℤ◌, ◌*ℤ�
 ghost use Rattle.std.specs.Option.{option_map};
 ghost use Rattle.c_subset.specs.Meaning as spec;
 
-use scr_text::Relation;
+use base::{Relation, holds_between};
 
 const GREATEST: i64 = 2_147_483_647;
 
@@ -69,19 +69,6 @@ pub(crate) fn negative(number: Option<i64>) -> Option<i64>
     ensures { result ≡ spec.negative number }
 {
     negation(number?)
-}
-
-fn holds_between(left: i64, relation: Relation, right: i64) -> bool
-    ensures { result ≡ spec.stands_in relation left right }
-{
-    match relation {
-        Relation::Equal => left == right,
-        Relation::Differ => left != right,
-        Relation::Less => left < right,
-        Relation::AtMost => left <= right,
-        Relation::Greater => left > right,
-        Relation::AtLeast => left >= right,
-    }
 }
 
 /// Whether the numbers stand in the relation, where both are there.

@@ -2,12 +2,12 @@
 //! is kept as `Unknown`, which has no meaning.
 
 use crate::places::Places;
-use scr_text::Relation;
+use base::Relation;
 use sqlite_items::{Boxed, Items};
 
 /// A term of a sum.
 #[cycle(value)]
-#[derive(Debug, Drop)]
+#[derive(Drop)]
 pub(crate) struct Part {
     pub minus: bool,
     pub value: Value,
@@ -15,7 +15,7 @@ pub(crate) struct Part {
 
 /// An expression. `Unknown` is a name that nothing has.
 #[cycle(value)]
-#[derive(Debug, Drop)]
+#[derive(Drop)]
 pub(crate) enum Value {
     Constant(i64),
     Parameter,
@@ -32,7 +32,7 @@ pub(crate) enum Value {
 
 /// A clause of a `switch`.
 #[cycle(action)]
-#[derive(Debug, Drop)]
+#[derive(Drop)]
 pub(crate) struct Case {
     pub label: i64,
     pub body: Items<Action>,
@@ -41,7 +41,7 @@ pub(crate) struct Case {
 
 /// A statement. `Unknown` is one with the name of no object or no function.
 #[cycle(action)]
-#[derive(Debug, Drop)]
+#[derive(Drop)]
 pub(crate) enum Action {
     Assign(usize, Value),
     If(Value, Items<Action>, Items<Action>),
@@ -51,7 +51,7 @@ pub(crate) enum Action {
 }
 
 /// A function, and whether it has a parameter.
-#[derive(Debug, Drop)]
+#[derive(Drop)]
 pub(crate) struct Routine {
     pub takes: bool,
     pub body: Items<Action>,

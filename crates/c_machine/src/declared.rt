@@ -9,8 +9,8 @@ ghost use Rattle.c_machine.specs.Running.{setter_of};
 use crate::code::Resolved;
 use crate::places::Places;
 use crate::resolve::resolve_function;
+use base::NoMemory;
 use c_subset::CItem;
-use scr_text::NoMemory;
 use sqlite_items::Items;
 use std::alloc::Global;
 

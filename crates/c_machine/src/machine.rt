@@ -1,15 +1,17 @@
 //! The machine.
-ghost use Rattle.std.specs.Prelude.{◌≡◌, length, Some};
+ghost use Rattle.std.specs.Prelude.{◌≡◌, length, map, Some, IfOk};
+ghost use Rattle.std.specs.List.{filter_map};
+ghost use Rattle.c_subset.specs.Parts.{object_of, function_of};
 ghost use Rattle.c_machine.specs.Actions.{replies_of};
-ghost use Rattle.c_machine.specs.Resolved.{by_name};
+ghost use Rattle.c_machine.specs.Resolved.{by_name, resolved};
 ghost use Rattle.c_machine.specs.Runs.{outcome};
 
 use crate::code::Resolved;
 use crate::declared::{functions, initial_numbers, object_names, setter_names};
 use crate::places::Places;
 use crate::run::run_routine;
-use c_subset::CUnit;
-use scr_text::NoMemory;
+use base::NoMemory;
+use c_subset::{CItem, CUnit};
 use std::alloc::Global;
 use std::marker::Model;
 use std::mem;
@@ -50,6 +52,25 @@ impl<'a> Model for Machine<'a> {
     ghost invariant = { λ m. IsSet m.unit.now m.code m.setters m.row.items m.spare.items };
 }
 
+/// The functions of a unit, by number.
+fn code_of(alloc: Global, items: &[CItem]) -> Result<Resolved, NoMemory>
+    ensures { IfOk result (λ code. code ≡ resolved (map (λ o. o.name) (filter_map object_of items.now)) (filter_map function_of items.now)) }
+{
+    let names = object_names(alloc, items)?;
+    functions(alloc, &names, items)
+}
+
+/// Two rows of the initial numbers.
+fn rows_of(alloc: Global, items: &[CItem]) -> Result<(Vec<i64>, Vec<i64>), NoMemory>
+    ensures row { IfOk result (λ rows. rows.0.items ≡ map (λ o. o.init) (filter_map object_of items.now)) }
+    ensures spare { IfOk result (λ rows. rows.1.items ≡ map (λ o. o.init) (filter_map object_of items.now)) }
+{
+    let numbers = initial_numbers(alloc, items)?;
+    let row = Vec::from_slice(alloc, numbers.as_slice())?;
+    let spare = Vec::from_slice(alloc, numbers.as_slice())?;
+    Ok((row, spare))
+}
+
 /// Tries a call on a copy of the row.
 fn attempt(code: &Resolved, name: &[u8], value: i64, row: &[i64], spare: &mut [i64]) -> bool
     requires { length spare.old ≡ length row.now }
@@ -63,7 +84,6 @@ fn attempt(code: &Resolved, name: &[u8], value: i64, row: &[i64], spare: &mut [i
 }
 
 impl<'a> Machine<'a> {
-    ghost use Rattle.std.specs.Prelude.{◌≡◌, IfOk};
     ghost use Rattle.c_subset.specs.Runs.{initial_objects, takes_call};
     ghost use Rattle.c_machine.specs.Running.{call_answer, after_call};
 
@@ -72,12 +92,9 @@ impl<'a> Machine<'a> {
         ensures { IfOk result (λ m. m ≡ record { unit = unit.now; objects = initial_objects unit.now }) }
     {
         let items = unit.items.as_slice();
-        let names = object_names(alloc, items)?;
-        let code = functions(alloc, &names, items)?;
+        let (row, spare) = rows_of(alloc, items)?;
         let setters = setter_names(alloc, items)?;
-        let numbers = initial_numbers(alloc, items)?;
-        let row = Vec::from_slice(alloc, numbers.as_slice())?;
-        let spare = Vec::from_slice(alloc, numbers.as_slice())?;
+        let code = code_of(alloc, items)?;
         Ok(Machine {
             unit,
             code,

@@ -4,14 +4,14 @@ ghost use Rattle.std.specs.Option.{option_map};
 ghost use Rattle.c_subset.specs.Meaning.{place_of};
 ghost use Rattle.c_machine.specs.Last.{last_place};
 
+use base::{Name, NoMemory};
 use indexmap::IndexMap;
-use scr_text::{Name, NoMemory};
 use sqlite_items::Items;
 use std::alloc::Global;
 use std::marker::Model;
 
 /// The first and the last number of a name.
-#[derive(Clone, Copy, Debug)]
+#[derive(Clone, Copy)]
 pub(crate) struct Ends {
     pub first: usize,
     pub last: usize,

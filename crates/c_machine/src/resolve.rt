@@ -7,8 +7,8 @@ ghost use Rattle.c_machine.specs.Shapes.{part_resolved, case_resolved};
 
 use crate::code::{Action, Case, Part, Routine, Value};
 use crate::places::Places;
+use base::{Name, NoMemory};
 use c_subset::{CClause, CExpr, CFunction, CStmt, CTerm};
-use scr_text::{Name, NoMemory};
 use sqlite_items::{Boxed, Items};
 use std::alloc::Global;
 

@@ -1,8 +1,8 @@
 //! Units of one object `v_x` and its setter, run call by call.
 
 use crate::{Machine, MachineFault};
+use base::{Name, NoMemory};
 use c_subset::{CClause, CExpr, CFunction, CItem, CObject, CStmt, CTerm, CUnit};
-use scr_text::{Name, NoMemory};
 use sqlite_items::Items;
 use std::alloc::Global;
 use std::test::Fail;

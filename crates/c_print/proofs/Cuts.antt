@@ -10,7 +10,7 @@ use Rattle.std.proofs.Math.Seq.{take-append_seam, get_or-append_seam}
 use Rattle.std.proofs.lemmas.Bool.{and_parts, leb-true, le-leb}
 use Rattle.std.proofs.lemmas.Slice.Eq.{bytes_eq-Decides}
 use Rattle.std.proofs.lemmas.Fmt.{decimal_by_steps, decimal_nonempty, first_decimal, decimal_digit}
-use Rattle.scr_text.specs.Piece.{is_word_byte}
+use Rattle.base.specs.Bytes.{is_word_byte}
 use Rattle.c_subset.specs.Names.{is_word, is_among, is_c_name}
 use Rattle.c_subset.specs.Names as c
 use Rattle.c_subset.specs.Kinds.{is_constant, is_number_in_range}
@@ -23,6 +23,7 @@ use Rattle.c_reader.specs.declared.word.Keyword.TheVariants as k
 use Rattle.c_reader.specs.Pieces.{is_run_byte, is_blank, starts, piece_len, space_len}
 use Rattle.c_reader.specs.Words.{keywords, signs, number_from, is_led_by_zero, run_word, named, word_of}
 use Rattle.c_print.specs.Marks.{keyword_text, sign_text, spelling}
+use Rattle.base.proofs.Decimals.{digit_is, digits_more, less_ten}
 
 -- ---- where a token ends
 
@@ -258,22 +259,11 @@ number_more n (d ∷ bytes) b = number_more (min (10 * n + (d - 48)) 2147483648)
 abbrev Reads : ℕ → List ℕ → Type 0
 Reads n digits = (list_all is_ascii_digit digits ≡ true) × (n ≤ 2147483647 → number_from 0 digits ≡ n)
 
-digit_is : (d : ℕ) → d < 10 → is_ascii_digit (48 + d) ≡ true
-digit_is d h = grind arith
-
 one_read : (d : ℕ) → d ≤ 2147483647 → min (10 * 0 + (48 + d - 48)) 2147483648 ≡ d
 one_read d small = omega arith
 
 more_read : (n m : ℕ) → n ≤ 2147483647 → m ≡ n / 10 → min (10 * m + (48 + n % 10 - 48)) 2147483648 ≡ n
 more_read n m small e = omega arith
-
-digits_more : (bytes : List ℕ) (b : ℕ) → list_all is_ascii_digit bytes ≡ true → is_ascii_digit b ≡ true → list_all is_ascii_digit (bytes ++ b ∷ []) ≡ true
-digits_more [] b h k = rw k refl
-digits_more (d ∷ bytes) b h k =
-    let parts = and_parts (is_ascii_digit d) (list_all is_ascii_digit bytes) h in let digit = parts.0 in rw digit (digits_more bytes b (parts.1) k)
-
-less_ten : (n : ℕ) → n % 10 < 10
-less_ten n = omega arith
 
 tenth_small : (n : ℕ) → n ≤ 2147483647 → n / 10 ≤ 2147483647
 tenth_small n h = omega arith

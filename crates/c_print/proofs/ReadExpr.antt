@@ -4,8 +4,8 @@ use Rattle.std.specs.Prelude.{nat_lt, is_some}
 use Rattle.std.specs.Prelude as std
 use Rattle.std.specs.List.{AllByRecursion, list_all}
 use Rattle.std.proofs.lemmas.Bool.{and_parts, leb-true, ltb-false}
-use Rattle.scr_text.specs.declared.word.Relation.{Relation}
-use Rattle.scr_text.specs.declared.word.Relation.TheVariants as r
+use Rattle.base.specs.declared.relation.Relation.{Relation}
+use Rattle.base.specs.declared.relation.Relation.TheVariants as r
 use Rattle.c_subset.specs.declared.kind.CKind.{CKind}
 use Rattle.c_subset.specs.declared.kind.CKind.TheVariants as kind
 use Rattle.c_subset.specs.declared.expr.CExpr.{CExpr}

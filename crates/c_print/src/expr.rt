@@ -6,9 +6,9 @@ ghost use Rattle.c_print.specs.Appended as spec;
 ghost use Rattle.c_print.specs.Printed as printed;
 
 use crate::ink::{push_before, push_between, push_constant, push_name, push_sign};
+use base::{NoMemory, Relation};
 use c_reader::Sign;
 use c_subset::{CExpr, CTerm};
-use scr_text::{NoMemory, Relation};
 
 // How tight forms bind, as the grammar of C11 nests them (6.5): a place that wants one of these takes that form and each
 // tighter one as it is, and any other in parentheses.

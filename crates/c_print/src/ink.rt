@@ -6,8 +6,8 @@ ghost use Rattle.c_print.specs.Appended as spec;
 ghost use Rattle.c_print.specs.Marks as marks;
 ghost use Rattle.c_print.specs.Printed as printed;
 
+use base::{Name, NoMemory, push_number};
 use c_reader::{Keyword, Sign};
-use scr_text::{Name, NoMemory, push_number};
 
 fn sign_bytes(sign: Sign) -> &'static [u8]
     ensures { result.now ≡ marks.sign_text sign }

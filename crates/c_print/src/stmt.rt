@@ -10,9 +10,9 @@ use crate::ink::{
     push_between, push_constant, push_end, push_feed, push_indent, push_keyword, push_name,
     push_sign, push_space,
 };
+use base::{Name, NoMemory};
 use c_reader::{Keyword, Sign};
 use c_subset::{CClause, CExpr, CStmt};
-use scr_text::{Name, NoMemory};
 
 /// Behind one more open brace. No memory holds the spaces where that many cannot be counted.
 fn deeper(depth: usize) -> Result<usize, NoMemory>

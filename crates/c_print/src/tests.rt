@@ -1,8 +1,8 @@
 //! A unit with each form of item, statement and expression, and its text.
 
 use crate::print_c;
+use base::{Name, NoMemory, Relation};
 use c_subset::{CClause, CExpr, CFunction, CItem, CObject, CStmt, CTerm, CUnit};
-use scr_text::{Name, NoMemory, Relation};
 use sqlite_items::{Boxed, Items};
 use std::alloc::Global;
 use std::test::Fail;

@@ -11,9 +11,9 @@ use crate::ink::{
     push_space,
 };
 use crate::stmt::push_block;
+use base::{Name, NoMemory};
 use c_reader::{Keyword, Sign};
 use c_subset::{CFunction, CItem, CObject, CUnit};
-use scr_text::{Name, NoMemory};
 use std::alloc::Global;
 
 /// Writes a keyword and a name.

@@ -2,7 +2,7 @@
 use Rattle.std.specs.Prelude.{◌≡◌, ℕ, ℤ, suc, min, max, Bool, true, false, cond, nat_lt, List, [], ◌∷◌, map, Option}
 use Rattle.std.specs.Option.{option_map_or}
 use Rattle.std.proofs.Common.{refl, sym, ap, ◌∙◌, arith}
-use Rattle.scr_text.specs.declared.word.Relation.{Relation}
+use Rattle.base.specs.declared.relation.Relation.{Relation}
 use Rattle.c_subset.specs.declared.expr.CExpr.{CExpr}
 use Rattle.c_subset.specs.declared.expr.CTerm.{CTerm}
 use Rattle.c_subset.specs.declared.expr.CExpr.TheVariants as e

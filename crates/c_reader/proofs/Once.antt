@@ -1,7 +1,7 @@
 -- A part in front of a text is one part: what it says and what is left behind it are settled by the words.
 use Rattle.std.proofs.Common.{◌≡◌, ℕ, Bool, List, [], ◌∷◌, refl, sym, ap, ap₂, ◌∙◌, subst}
-use Rattle.scr_text.specs.declared.word.Relation.{Relation}
-use Rattle.scr_text.specs.declared.word.Relation.TheVariants as r
+use Rattle.base.specs.declared.relation.Relation.{Relation}
+use Rattle.base.specs.declared.relation.Relation.TheVariants as r
 use Rattle.c_subset.specs.declared.expr.CExpr.{CExpr}
 use Rattle.c_subset.specs.declared.expr.CExpr.TheVariants as e
 use Rattle.c_subset.specs.declared.expr.CTerm.{CTerm}

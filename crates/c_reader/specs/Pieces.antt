@@ -1,5 +1,5 @@
 -- The tokens and the space that stand in front of a text, longest first.
-pub use Rattle.scr_text.specs.Piece.{is_word_byte}
+pub use Rattle.base.specs.Bytes.{is_word_byte}
 use Rattle.std.specs.Prelude.{ℕ, suc, ◌+◌, Bool, true, false, not, ◌&&◌, ◌||◌, if◌then◌else◌, ◌==◌, List, [], ◌∷◌, length, take, Option, Some, None}
 use Rattle.std.specs.Char.{is_ascii_alphabetic, is_ascii_digit}
 use Rattle.std.specs.List.{prefix_len}

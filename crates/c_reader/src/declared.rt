@@ -6,12 +6,12 @@ ghost use Rattle.c_subset.specs.Names.{is_among};
 ghost use Rattle.c_subset.specs.Scope.{no_scope, known, is_item_name, is_taken};
 ghost use Rattle.c_reader.specs.Kept.{signature_of, scope_of, with_object, with_function, with_parameter, Like};
 
+use base::{Name, NoMemory};
 use indexmap::{IndexMap, IndexSet};
-use scr_text::{Name, NoMemory};
 use std::alloc::Global;
 
 /// Whether a function has a parameter, and what a call of it costs.
-#[derive(Clone, Copy, Debug)]
+#[derive(Clone, Copy)]
 pub(crate) struct Signature {
     pub takes: bool,
     pub weight: usize,

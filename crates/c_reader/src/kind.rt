@@ -9,8 +9,8 @@ ghost use Rattle.c_reader.specs.Kept.{scope_of};
 ghost use Rattle.c_reader.specs.Terms as terms_of;
 
 use crate::declared::Declared;
+use base::Name;
 use c_subset::{CExpr, CKind, CTerm};
-use scr_text::Name;
 
 /// Whether the name is that of the parameter or of an object.
 fn is_number_name(declared: &Declared, parameter: &Option<Name>, name: &Name) -> bool

@@ -9,9 +9,9 @@ ghost use Rattle.c_subset.specs.Rules as rules;
 ghost use Rattle.c_reader.specs.Labels as spec;
 
 use crate::kind::is_number_in_range;
+use base::NoMemory;
 use c_subset::CClause;
 use indexmap::IndexSet;
-use scr_text::NoMemory;
 use std::alloc::Global;
 
 fn are_in_range(clauses: &[CClause]) -> bool

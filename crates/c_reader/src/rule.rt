@@ -17,8 +17,8 @@ use crate::nesting::open_function;
 use crate::piece;
 use crate::piece::first_and_rest;
 use crate::spelling::{NAME_LIMIT, is_c_keyword};
+use base::{Name, NoMemory};
 use c_subset::{CClause, CExpr, CFunction, CItem, CObject, CStmt};
-use scr_text::{Name, NoMemory};
 use std::alloc::Global;
 
 /// The greatest weight of a function.

@@ -4,12 +4,12 @@ use Rattle.std.specs.Option.{option_and_then, option_map}
 use Rattle.std.specs.Ordering.{int_eq}
 use Rattle.std.specs.List.{position}
 use Rattle.std.specs.Str.{bytes_eq}
-use Rattle.scr_text.specs.declared.word.Relation.{Relation}
-use Rattle.scr_text.specs.declared.word.Relation.TheVariants.{Equal, Differ, Less, AtMost, Greater, AtLeast}
+use Rattle.base.specs.declared.relation.Relation.{Relation}
 use Rattle.c_subset.specs.declared.expr.CExpr.{CExpr}
 use Rattle.c_subset.specs.declared.expr.CExpr.TheOpen.{CExpr-F, Constant, Name, Minus, Not, Product, Sum, Relate, And, Or}
 use Rattle.c_subset.specs.Parts.{Term, of_expr}
 use Rattle.c_subset.specs.Kinds.{is_number_in_range}
+use Rattle.base.specs.Relations.{stands_in}
 
 -- one number for each object, in order of declaration
 abbrev pub Objects : Type 0
@@ -93,15 +93,6 @@ abbrev pub sum_of : List (Term (Option ℤ)) → Option ℤ
 sum_of ts = fold (λ sum t. cond t.minus (minus sum t.value) (plus sum t.value)) (Some (pos 0)) ts
 
 -- ---- truths
-
--- the numbers stand in the relation (6.5.8, 6.5.9)
-abbrev pub stands_in : Relation → ℤ → ℤ → Bool
-stands_in Equal x y = int_eq x y
-stands_in Differ x y = not (int_eq x y)
-stands_in Less x y = int_lt x y
-stands_in AtMost x y = int_le x y
-stands_in Greater x y = int_lt y x
-stands_in AtLeast x y = int_le y x
 
 abbrev pub relates : Relation → Option ℤ → Option ℤ → Option Bool
 relates relation a b = option_and_then (λ x. option_map (stands_in relation x) b) a

@@ -1,5 +1,5 @@
 -- Which words are names of a C unit.
-pub use Rattle.scr_text.specs.Piece.{is_spelt as is_word}
+pub use Rattle.base.specs.Bytes.{is_spelt as is_word}
 use Rattle.std.specs.Prelude.{ℕ, Bool, not, ◌&&◌, nat_le, List, [], ◌∷◌, length, codes}
 use Rattle.std.specs.List.{list_any}
 use Rattle.std.specs.Str.{bytes_eq}

@@ -24,7 +24,7 @@ use Rattle.scr_spec.specs.Relations.{cell_value}
 use Rattle.scr_spec.proofs.Lookup.{all_get}
 use Rattle.scr_depend.specs.Reads.{cell_reads, row_reads, value_reads, table_reads}
 use Rattle.c_subset.specs.declared.expr.CExpr.{CExpr}
-use Rattle.scr_next.proofs.Lists.{any_there}
+use Rattle.run_step.proofs.Lists.{any_there}
 use Rattle.c_subset.specs.declared.expr.CExpr.TheVariants.{Constant}
 use Rattle.c_subset.specs.declared.stmt.CStmt.TheVariants.{Assign}
 use Rattle.c_subset.specs.Meaning.{Objects, Names, name_value, number_of, truth_of}

@@ -25,15 +25,15 @@ use Rattle.scr_spec.proofs.Lookup.{all_get}
 use Rattle.scr_depend.specs.Reads.{class_reads, row_reads, value_reads, table_reads}
 use Rattle.scr_depend.specs.declared.order.Order.{Order}
 use Rattle.scr_depend.specs.Meets.{MeetsChecks}
-use Rattle.scr_next.specs.Runs.{IsConsistent, IsStep}
-use Rattle.scr_next.specs.Given.{Gives, GivesOrKeeps}
+use Rattle.run_step.specs.Runs.{IsConsistent, IsStep}
+use Rattle.run_step.specs.Given.{Gives, GivesOrKeeps}
 use Rattle.scr_depend.specs.Passes.{PassesChecks}
-use Rattle.scr_next.proofs.Cells.{IsJudged, none_holds, none_gives, relation_gives, code_once}
-use Rattle.scr_next.proofs.Apart.{rows_apart}
-use Rattle.scr_next.proofs.Order.{placed, not_both, one_of, dependent_within, table_variable, tabled, checked}
-use Rattle.scr_next.proofs.Settle.{judged, relation_at}
-use Rattle.scr_next.proofs.Next.{related_pair}
-use Rattle.scr_next.proofs.Lists.{any_there}
+use Rattle.run_step.proofs.Cells.{IsJudged, none_holds, none_gives, relation_gives, code_once}
+use Rattle.run_step.proofs.Apart.{rows_apart}
+use Rattle.run_step.proofs.Order.{placed, not_both, one_of, dependent_within, table_variable, tabled, checked}
+use Rattle.run_step.proofs.Settle.{judged, relation_at}
+use Rattle.run_step.proofs.Next.{related_pair}
+use Rattle.run_step.proofs.Lists.{any_there}
 use Rattle.c_writer.proofs.CellRuns.{IsRowReady, AreValuesReady}
 use Rattle.c_writer.proofs.TableRuns.{IsRowRight, IsClassRight}
 use Rattle.c_writer.proofs.StepRuns.{IsPlaced, IsVariableRight}

@@ -7,8 +7,8 @@ use Rattle.std.specs.Prelude.{slice_get}
 use Rattle.std.specs.List.{list_all, list_any, AllByRecursion as Each}
 use Rattle.std.proofs.lemmas.Bool.{and_parts, ltb-true, eq-eqb, or_left, or_right, or_cases, false≢true}
 use Rattle.std.proofs.lemmas.Int.{ints}
-use Rattle.scr_text.specs.declared.word.Relation.{Relation}
-use Rattle.scr_text.specs.declared.word.Relation.TheVariants.{Equal, Differ, Less, AtMost, Greater, AtLeast}
+use Rattle.base.specs.declared.relation.Relation.{Relation}
+use Rattle.base.specs.declared.relation.Relation.TheVariants.{Equal, Differ, Less, AtMost, Greater, AtLeast}
 use Rattle.scr_spec.specs.Data.{Data}
 use Rattle.dd_formula.specs.declared.domain.Domain.{Domain}
 use Rattle.scr_spec.specs.declared.spec.Kind.{Kind}
@@ -24,7 +24,8 @@ use Rattle.scr_spec.specs.declared.cond.Cond.{Cond, ind-Cond, roll-Cond, fold-ro
 use Rattle.scr_spec.specs.declared.cond.Cond.TheOpen as layer
 use Rattle.scr_spec.specs.declared.cond.Cond.TheFolds.{map-Cond}
 use Rattle.scr_spec.specs.Sorts.{same_sort, is_sort, type_range, kind_sort, variable_sort}
-use Rattle.scr_spec.specs.Meaning.{Codes, code_of, side_value, stands_in, truth_step, is_true}
+use Rattle.base.specs.Relations.{stands_in}
+use Rattle.scr_spec.specs.Meaning.{Codes, code_of, side_value, truth_step, is_true}
 use Rattle.scr_spec.specs.Domains.{IsWithin, IsTyped, kind_domain, domain_of, no_domain}
 use Rattle.scr_spec.specs.Typed.{typed_step, is_cond_typed}
 use Rattle.scr_spec.specs.Over.{is_operand_over, is_item_over, is_side_over, over_step, is_cond_over}
@@ -32,7 +33,6 @@ use Rattle.scr_depend.specs.Reads.{operand_names, operand_primes, item_names, it
 use Rattle.c_subset.specs.declared.expr.CExpr.{CExpr}
 use Rattle.c_subset.specs.declared.expr.CExpr.TheVariants.{Constant, Name, Relate}
 use Rattle.c_subset.specs.Meaning.{Objects, Names, name_value, relates, all_true, some_true, number_of, truth_of}
-use Rattle.c_subset.specs.Meaning as meaning
 use Rattle.c_writer.specs.Sides.{side_expr}
 use Rattle.c_writer.specs.Conditions.{truth_expr, cond_step, cond_expr}
 use Rattle.c_writer.proofs.Meanings.{number_of-Constant, number_of-Name, truth_of-Not, truth_of-Relate, truth_of-And, truth_of-Or}
@@ -40,18 +40,10 @@ use Rattle.c_writer.proofs.SideNumbers.{OperandShown, side_number}
 
 -- ---- relations
 
-same_relation : (m : Relation) (x y : ℤ) → meaning.stands_in m x y ≡ stands_in m x y
-same_relation Equal x y = refl
-same_relation Differ x y = refl
-same_relation Less x y = refl
-same_relation AtMost x y = refl
-same_relation Greater x y = refl
-same_relation AtLeast x y = refl
-
 pub relate_truth : (names : Names) (row : Objects) (l : CExpr) (m : Relation) (r : CExpr) (x y : ℤ) → number_of names row l ≡ Some x → number_of names row r ≡ Some y
     → truth_of names row (Relate l m r) ≡ Some (stands_in m x y)
 relate_truth names row l m r x y e f =
-    truth_of-Relate names row l m r ∙ ap (λ o. relates m o (number_of names row r)) e ∙ ap (relates m (Some x)) f ∙ ap (λ b. Some b) (same_relation m x y)
+    truth_of-Relate names row l m r ∙ ap (λ o. relates m o (number_of names row r)) e ∙ ap (relates m (Some x)) f
 
 pub truth_truth : (names : Names) (row : Objects) (b : Bool) → truth_of names row (truth_expr b) ≡ Some b
 truth_truth names row true = relate_truth names row (Constant (pos 0)) Equal (Constant (pos 0)) (pos 0) (pos 0) (number_of-Constant names row (pos 0)) (number_of-Constant names row (pos 0))

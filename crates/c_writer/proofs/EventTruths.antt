@@ -7,7 +7,7 @@ use Rattle.std.proofs.lemmas.Bool.{and_parts, ltb-true, eq-eqb, or_left, or_righ
 use Rattle.std.proofs.lemmas.Int.{ints}
 use Rattle.std.proofs.lemmas.List.{map-append}
 use Rattle.std.proofs.lemmas.List.Folds.{list_all-append}
-use Rattle.scr_text.specs.declared.word.Relation.TheVariants.{Differ}
+use Rattle.base.specs.declared.relation.Relation.TheVariants.{Differ}
 use Rattle.scr_spec.specs.Data.{Data}
 use Rattle.scr_spec.specs.declared.cond.Cond.{Cond}
 use Rattle.scr_spec.specs.declared.table.Change.{Change}

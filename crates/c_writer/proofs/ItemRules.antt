@@ -9,8 +9,8 @@ use Rattle.std.proofs.lemmas.Bool.{and_parts, and_from, or_left, or_from, leb-tr
 use Rattle.std.proofs.lemmas.List.{append-nil, append_assoc}
 use Rattle.std.proofs.lemmas.List.Folds.{list_all-append, list_any-append, list_any_at}
 use Rattle.std.proofs.lemmas.List.Sums.{sum_by-cons}
-use Rattle.scr_text.specs.Piece.{is_word_byte}
-use Rattle.scr_text.specs.Words.{keyword_of}
+use Rattle.base.specs.Bytes.{is_word_byte}
+use Rattle.scr_tokens.specs.Words.{keyword_of}
 use Rattle.scr_spec.specs.Data.{Data}
 use Rattle.scr_spec.specs.Names.{variable_name}
 use Rattle.scr_spec.specs.declared.spec.Variable.{Variable}

@@ -3,7 +3,7 @@ use Rattle.std.proofs.Common.{◌≡◌, ℕ, ℤ, Bool, cond, List, [], ◌∷�
 use Rattle.std.specs.Prelude.{fold, not}
 use Rattle.std.proofs.lemmas.Simd.{map-map}
 use Rattle.std.specs.Option.{option_and_then, option_map}
-use Rattle.scr_text.specs.declared.word.Relation.{Relation}
+use Rattle.base.specs.declared.relation.Relation.{Relation}
 use Rattle.c_subset.specs.declared.expr.CExpr.{CExpr}
 use Rattle.c_subset.specs.declared.expr.CExpr.TheVariants.{Constant, Name, Minus, Not, Product, Sum, Relate, And, Or}
 use Rattle.c_subset.specs.declared.expr.CTerm.{CTerm}

@@ -5,7 +5,7 @@ use Rattle.std.specs.List.{list_all, AllByRecursion as Each}
 use Rattle.std.proofs.lemmas.Bool.{and_parts, and_from, leb-true, le-leb, le-ltb, ltb-true}
 use Rattle.std.proofs.lemmas.List.{length-map}
 use Rattle.std.proofs.lemmas.List.Sums.{sum_by-cons}
-use Rattle.scr_text.specs.declared.word.Relation.{Relation}
+use Rattle.base.specs.declared.relation.Relation.{Relation}
 use Rattle.scr_spec.specs.Data.{Data}
 use Rattle.scr_spec.specs.declared.cond.Operand.{Operand}
 use Rattle.scr_spec.specs.declared.cond.Operand.TheVariants as operand

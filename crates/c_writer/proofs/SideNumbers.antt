@@ -26,6 +26,8 @@ use Rattle.c_writer.specs.declared.side.LinearTerm.{LinearTerm}
 use Rattle.c_writer.specs.Sides.{term_of_operand, term_of_item, size_expr, negated_expr, is_negative, leading_expr, leading_term, later_term, sum_expr, side_expr}
 use Rattle.c_writer.proofs.Written.{truth_size}
 use Rattle.c_writer.proofs.Meanings.{number_of-Constant, number_of-Name, number_of-Minus, number_of-Product, number_of-Sum, term_number}
+use Rattle.scr_spec.proofs.Sizes.{code_bounded}
+use Rattle.base.proofs.Sizes.{sum_size}
 
 -- ---- numbers in range
 
@@ -168,9 +170,6 @@ OperandShown names row spec plain primed old new (operand.Label owner code) = Un
 OperandShown names row spec plain primed old new (operand.Variable v) = name_value names row (plain v) ≡ Some (code_of old v)
 OperandShown names row spec plain primed old new (operand.Primed v) = name_value names row (primed v) ≡ Some (code_of new v)
 
-pub code_bounded : (d : Domain) (code : ℤ) → IsWithin d code → unsigned_abs code ≤ domain_bound d
-code_bounded d code h = grind (arith, ints)
-
 -- a number alone
 fixed_numbered : (names : Names) (row : Objects) (spec : Data) (old new : Codes) (factor v : ℤ) (o : Operand) → operand_value spec old new o ≡ v → unsigned_abs v ≤ operand_bound spec o
     → unsigned_abs factor * operand_bound spec o ≤ 2000000000 → Numbered names row spec old new factor o (record { coefficient = factor *ℤ v; object = None })
@@ -211,9 +210,6 @@ operand_numbered names row spec plain primed old new factor (operand.Primed v) t
 
 abbrev pub ItemNumbered : Names → Objects → Data → (ℕ → List ℕ) → (ℕ → List ℕ) → Codes → Codes → Item → Type 0
 ItemNumbered names row spec plain primed old new item = Numbered names row spec old new item.factor item.operand (term_of_item spec plain primed item)
-
-sum_size : (a b : ℤ) → unsigned_abs (a +ℤ b) ≤ unsigned_abs a + unsigned_abs b
-sum_size a b = grind (arith, ints)
 
 item_size : (names : Names) (row : Objects) (spec : Data) (plain primed : ℕ → List ℕ) (old new : Codes) (item : Item) → ItemNumbered names row spec plain primed old new item
     → unsigned_abs (item_value spec old new item) ≤ item_bound spec item

@@ -17,7 +17,7 @@ use Rattle.scr_spec.proofs.Narrow.{variable_narrow}
 use Rattle.scr_depend.proofs.Count.{count_below, count_below_all, without, without_other, count_without}
 use Rattle.scr_depend.specs.declared.order.Order.{Order}
 use Rattle.scr_depend.specs.Passes.{PassesChecks}
-use Rattle.scr_next.proofs.Order.{dependent_within}
+use Rattle.run_step.proofs.Order.{dependent_within}
 use Rattle.c_subset.specs.declared.unit.CFunction.{CFunction}
 use Rattle.c_subset.specs.declared.unit.CItem.TheVariants.{Function}
 use Rattle.c_subset.specs.Names.{is_among}
@@ -28,7 +28,7 @@ use Rattle.c_subset.specs.Runs.{setter as setter_name}
 use Rattle.c_writer.specs.Objects.{new_object, old_object, save_name, step_name, argument_name}
 use Rattle.c_writer.specs.Units.{variables_of, object_item, save_function, step_function, setter, setter_item, setters, unit_of}
 use Rattle.c_writer.specs.Laws.{UnitKeepsRules}
-use Rattle.c_writer.proofs.SideNumbers.{code_bounded}
+use Rattle.scr_spec.proofs.Sizes.{code_bounded}
 use Rattle.c_writer.proofs.StmtRules.{AreStmts}
 use Rattle.c_writer.proofs.TableRules.{variables_at}
 use Rattle.c_writer.proofs.Places.{differ, same_bytes, all_objects, new_differ, old_differ, new_old}

@@ -10,12 +10,12 @@ use Rattle.scr_spec.specs.declared.state.Input.{Input}
 use Rattle.scr_spec.specs.Meaning.{Codes, code_of}
 use Rattle.scr_spec.specs.Relations.{is_monitored}
 use Rattle.scr_depend.specs.declared.order.Order.{Order}
-use Rattle.scr_next.specs.Runs.{IsConsistent, IsInitial, IsStep, IsRun, Leads}
+use Rattle.run_step.specs.Runs.{IsConsistent, IsInitial, IsStep, IsRun, Leads}
 use Rattle.scr_depend.specs.Passes.{PassesChecks}
-use Rattle.scr_next.proofs.Order.{monitored_within}
-use Rattle.scr_next.proofs.Next.{step_consistent}
-use Rattle.scr_next.proofs.Begin.{one_initial}
-use Rattle.scr_next.proofs.Runs.{one_run}
+use Rattle.run_step.proofs.Order.{monitored_within}
+use Rattle.run_step.proofs.Next.{step_consistent}
+use Rattle.run_step.proofs.Begin.{one_initial}
+use Rattle.run_step.proofs.Runs.{one_run}
 use Rattle.c_subset.specs.declared.unit.CUnit.{CUnit}
 use Rattle.c_subset.specs.Meaning.{Objects, object_value}
 use Rattle.c_subset.specs.Runs.{call_effect, rows_from, setter as setter_name}

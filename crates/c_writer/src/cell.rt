@@ -14,9 +14,9 @@ use crate::condition::{cond_expr, truth};
 use crate::event::event_expr;
 use crate::objects::{Moment, object_at};
 use crate::side::side_expr;
+use base::{Name, NoMemory};
 use c_subset::{CExpr, CStmt};
 use scr_spec::{Cell, Heading, Row, Spec, Table};
-use scr_text::{Name, NoMemory};
 use sqlite_items::Items;
 use std::alloc::Global;
 

@@ -10,9 +10,9 @@ ghost use Rattle.c_writer.specs.Conditions.{truth_expr, cond_expr as condition, 
 
 use crate::objects::{Moment, object_at};
 use crate::side::side_expr;
+use base::{NoMemory, Relation};
 use c_subset::CExpr;
 use scr_spec::{Cond, Expr, Spec};
-use scr_text::{NoMemory, Relation};
 use sqlite_items::{Boxed, Items};
 use std::alloc::Global;
 

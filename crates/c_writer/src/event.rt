@@ -8,9 +8,9 @@ ghost use Rattle.c_writer.specs.Conditions.{change_exprs as exprs_of_change, gua
 
 use crate::condition::{cond_expr, conjunction, disjunction, negation, relate, truth};
 use crate::objects::{Moment, object_at};
+use base::{NoMemory, Relation};
 use c_subset::CExpr;
 use scr_spec::{Change, Cond, Event, Primitive, Spec};
-use scr_text::{NoMemory, Relation};
 use sqlite_items::Items;
 use std::alloc::Global;
 

@@ -5,12 +5,12 @@ ghost use Rattle.scr_spec.specs.Shown.{data_of};
 ghost use Rattle.c_subset.specs.Runs.{setter as setter_name};
 ghost use Rattle.c_writer.specs.Objects.{object_of};
 
+use base::{Name, NoMemory};
 use scr_spec::{Spec, variable_name};
-use scr_text::{Name, NoMemory};
 use std::alloc::Global;
 
 /// The two states that a step is between.
-#[derive(Clone, Copy, Debug, PartialEq, Eq)]
+#[derive(Clone, Copy, PartialEq, Eq)]
 pub(crate) enum Moment {
     Old,
     New,

@@ -8,14 +8,14 @@ ghost use Rattle.c_writer.specs.Objects.{object_of};
 ghost use Rattle.c_writer.specs.Sides.{coefficient_of, object_in as object_of_operand, term_of_item, size_expr, negated_expr, leading_expr, leading_term as first_term, later_term as next_term, side_expr as side};
 
 use crate::objects::{Moment, object_at};
+use base::{Name, NoMemory};
 use c_subset::{CExpr, CTerm};
 use scr_spec::{Expr, Item, Operand, Spec};
-use scr_text::{Name, NoMemory};
 use sqlite_items::{Boxed, Items};
 use std::alloc::Global;
 
 /// A number, or a number times an object.
-#[derive(Debug, Drop)]
+#[derive(Drop)]
 pub(crate) struct LinearTerm {
     pub coefficient: i64,
     pub object: Option<Name>,

@@ -7,9 +7,9 @@ ghost use Rattle.c_writer.specs.Tables.{row_stmts as stmts_of_row, passed_clause
 
 use crate::cell::row_stmts;
 use crate::objects::{Moment, object_at};
+use base::{Name, NoMemory};
 use c_subset::{CClause, CExpr, CStmt};
 use scr_spec::{Heading, Spec, Table};
-use scr_text::{Name, NoMemory};
 use sqlite_items::Items;
 use std::alloc::Global;
 

@@ -4,7 +4,7 @@ ghost use Rattle.std.specs.List.{flat_map, filter, range_with_len};
 ghost use Rattle.scr_spec.specs.Shown.{data_of};
 ghost use Rattle.scr_spec.specs.Meaning.{code_of};
 ghost use Rattle.scr_spec.specs.Relations.{is_monitored};
-ghost use Rattle.scr_next.specs.Runs.{IsInitial};
+ghost use Rattle.run_step.specs.Runs.{IsInitial};
 ghost use Rattle.c_subset.specs.Rules.{is_unit};
 ghost use Rattle.c_writer.specs.Objects.{object_of};
 ghost use Rattle.c_writer.specs.Tables.{variable_stmts as stmts_of_variable};
@@ -14,10 +14,10 @@ ghost use Rattle.c_writer.specs.Laws.{IsRightUnit};
 
 use crate::objects::{Moment, object_at, setter_at};
 use crate::table::variable_stmts;
+use base::{Name, NoMemory};
 use c_subset::{CExpr, CFunction, CItem, CObject, CStmt, CUnit};
 use scr_depend::Checked;
 use scr_spec::{Spec, State};
-use scr_text::{Name, NoMemory};
 use sqlite_items::Items;
 use std::alloc::Global;
 

@@ -13,7 +13,7 @@ use dd_formula::Formula;
 use dd_store::{Id, Store, StoreFault};
 
 /// The tree of a conjunction, and those of its members in the second place.
-#[derive(Debug, Drop)]
+#[derive(Drop)]
 pub struct Shared {
     pub whole: Id,
     pub rest: Vec<Id>,

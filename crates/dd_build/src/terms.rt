@@ -6,9 +6,9 @@ ghost use Rattle.dd_store.specs.Kept.{IsHeld};
 ghost use Rattle.dd_build.specs.Atoms.{term_measure};
 ghost use Rattle.dd_build.specs.Sums.{factor_of, factors_bound, own_factor, term_with, ordered_from, IsNextLevel};
 
+use base::NoMemory;
 use dd_formula::{Domain, Term};
 use dd_store::Store;
-use scr_text::NoMemory;
 
 /// The factor of a term of the level, and 0 of another.
 fn factor_in(term: Term, level: usize) -> i64

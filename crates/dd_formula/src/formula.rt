@@ -3,14 +3,14 @@
 use sqlite_items::{Boxed, Items};
 
 /// How a sum is compared with 0: it is 0, or it is at most 0.
-#[derive(Clone, Copy, Debug, PartialEq, Eq)]
+#[derive(Clone, Copy, PartialEq, Eq)]
 pub enum Op {
     Eq,
     Le,
 }
 
 /// A factor times the code of a level. Levels are numbered from 0.
-#[derive(Clone, Copy, Debug, PartialEq, Eq)]
+#[derive(Clone, Copy, PartialEq, Eq)]
 pub struct Term {
     pub factor: i64,
     pub level: usize,
@@ -18,7 +18,7 @@ pub struct Term {
 
 /// Holds where the sum of its terms and its constant compares with 0 as `op` says. The terms stand
 /// in any order, and a level may occur in several of them.
-#[derive(Debug, Drop)]
+#[derive(Drop)]
 pub struct Linear {
     pub terms: Items<Term>,
     pub constant: i64,
@@ -26,7 +26,7 @@ pub struct Linear {
 }
 
 /// A formula. `And` and `Or` may have any number of members, none included.
-#[derive(Debug, Drop)]
+#[derive(Drop)]
 pub enum Formula {
     True,
     False,

@@ -4,7 +4,7 @@ ghost use Rattle.dd_formula.specs.declared.formula.Formula.TheVariants.{Not, And
 ghost use Rattle.dd_formula.specs.Joined.{all_of, any_of};
 
 use crate::Formula;
-use scr_text::NoMemory;
+use base::NoMemory;
 use sqlite_items::{Boxed, Items};
 use std::alloc::Global;
 

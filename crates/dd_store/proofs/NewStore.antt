@@ -4,7 +4,7 @@ use Rattle.std.specs.List.{All}
 use Rattle.dd_formula.specs.declared.domain.Domain.{Domain}
 use Rattle.dd_store.specs.Domains.{sizes_of, IsDomain}
 use Rattle.dd_store.specs.declared.memo.MemoKey.{MemoKey}
-use Rattle.dd_store.specs.declared.store.TheConstants.{NODE_LIMIT}
+use Rattle.dd_store.specs.declared.store.TheConstants.{SPLIT_LIMIT}
 use Rattle.dd_store.specs.Held.{Node, Held, leaves, trees}
 use Rattle.dd_store.specs.Kept.{IsHeld}
 
@@ -25,7 +25,7 @@ abbrev pub bare : List Domain → ℕ → Held
 bare ds limit = record { domains = ds; limit = limit; nodes = []; entries = [] }
 
 -- it keeps what every store keeps
-pub IsHeld-bare : (ds : List Domain) (limit : ℕ) → All IsDomain ds → limit ≤ NODE_LIMIT → IsHeld (bare ds limit)
+pub IsHeld-bare : (ds : List Domain) (limit : ℕ) → All IsDomain ds → limit ≤ SPLIT_LIMIT → IsHeld (bare ds limit)
 IsHeld-bare ds limit h few = record {
   domains = h;
   codes = codes_at ds;

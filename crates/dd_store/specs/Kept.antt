@@ -5,7 +5,7 @@ use Rattle.dd_tree.specs.Tree.{Tree, has_tree}
 use Rattle.dd_tree.specs.Ordered.{IsOrderedFrom, HaveCodes}
 use Rattle.dd_tree.specs.Added.{splits, AreIn}
 use Rattle.dd_store.specs.declared.memo.MemoKey.{MemoKey}
-use Rattle.dd_store.specs.declared.store.TheConstants.{NODE_LIMIT}
+use Rattle.dd_store.specs.declared.store.TheConstants.{SPLIT_LIMIT}
 use Rattle.dd_store.specs.Domains.{IsDomain}
 use Rattle.dd_store.specs.Held.{Node, Held, sizes, at, tree_in, leaves, trees, IsKnown}
 use Rattle.dd_store.specs.Memo.{IsResult}
@@ -26,7 +26,7 @@ pub record IsHeld (held : Held) : Type 0 where
   pub domains : All IsDomain held.domains
   pub codes : HaveCodes (sizes held)
   pub narrow : (l : ℕ) → slice_index (sizes held) l ≤ 8192
-  pub few : held.limit ≤ NODE_LIMIT
+  pub few : held.limit ≤ SPLIT_LIMIT
   pub room : length held.nodes ≤ held.limit
   pub nodes : AreNodes (sizes held) leaves held.nodes
   pub right : (e : MemoKey × ℕ) → Contains held.entries e → IsResult held e.0 e.1

@@ -4,7 +4,7 @@ use std::marker::Model;
 
 /// A leaf or a node of a store. Contracts see its number: 0 is the leaf false, 1 the leaf true, and
 /// the nodes follow in the order in which they were made.
-#[derive(Clone, Copy, Debug, PartialEq, Eq, Hash)]
+#[derive(Clone, Copy, PartialEq, Eq, Hash)]
 pub struct Id {
     pub(crate) number: u32,
 }

@@ -7,14 +7,16 @@
 ghost use Rattle.dd_store.specs.Kept.{OneIdPerTree};
 
 mod id;
+mod law;
 mod memo;
 mod node;
 mod store;
 
 pub use id::Id;
+pub use law::limit_of_splits;
 pub use memo::{Join, MemoKey};
 pub use node::{Stretch, View};
-pub use store::{NODE_LIMIT, Store, StoreFault};
+pub use store::{SPLIT_LIMIT, Store, StoreFault};
 
 /// In every store distinct Ids have distinct trees, each ordered and reduced, with all its inner
 /// subtrees in the store, and beside the leaves there are at most as many trees as the limit.

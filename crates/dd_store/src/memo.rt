@@ -3,7 +3,7 @@
 use crate::id::Id;
 
 /// The operations that the memo knows.
-#[derive(Clone, Copy, Debug, PartialEq, Eq, Hash)]
+#[derive(Clone, Copy, PartialEq, Eq, Hash)]
 pub enum Join {
     And,
     Or,
@@ -11,7 +11,7 @@ pub enum Join {
 }
 
 /// An operation on two Ids, which for `Not` are one.
-#[derive(Clone, Copy, Debug, PartialEq, Eq, Hash)]
+#[derive(Clone, Copy, PartialEq, Eq, Hash)]
 pub struct MemoKey {
     pub join: Join,
     pub left: Id,

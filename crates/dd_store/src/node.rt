@@ -7,27 +7,27 @@ ghost use Rattle.dd_store.specs.Keys.{node_of, nodes_of, IsJoinedKey, Puts};
 
 use crate::id::Id;
 use crate::store::StoreFault;
+use base::NoMemory;
 use indexmap::IndexSet;
-use scr_text::NoMemory;
 use std::alloc::Global;
 
 /// A run of equal children. `last` is the position in the level's domain of the run's last code, from
 /// 0, and a run begins after the one before it.
-#[derive(Clone, Copy, Debug, PartialEq, Eq, Hash)]
+#[derive(Clone, Copy, PartialEq, Eq, Hash)]
 pub struct Stretch {
     pub last: u32,
     pub child: Id,
 }
 
 /// What an Id stands for: a leaf's truth, or a node's level and runs.
-#[derive(Clone, Copy, Debug)]
+#[derive(Clone, Copy)]
 pub enum View<'a> {
     Leaf(bool),
     Node(usize, &'a [Stretch]),
 }
 
 /// What makes a node the one that it is. No run is empty, and neighbours have different children.
-#[derive(Debug, PartialEq, Eq, Hash, Drop)]
+#[derive(PartialEq, Eq, Hash, Drop)]
 pub(crate) struct NodeKey {
     pub(crate) level: usize,
     pub(crate) runs: Vec<Stretch>,

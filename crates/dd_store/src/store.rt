@@ -16,17 +16,17 @@ ghost use Rattle.dd_store.specs.Split.{IsSplit, split_of, HasNoRoom, Shows};
 use crate::id::Id;
 use crate::memo::{Join, MemoKey};
 use crate::node::{NodeKey, Stretch, View, join_runs, put};
+use base::NoMemory;
 use dd_formula::Domain;
 use indexmap::IndexSet;
 use lru::LruCache;
-use scr_text::NoMemory;
 use std::alloc::{AllocFailed, Global};
 use std::marker::Model;
 use std::num::NonZeroUsize;
 use thiserror::Error;
 
 /// The greatest limit of a store, in nodes.
-pub const NODE_LIMIT: u32 = 40_000;
+pub const SPLIT_LIMIT: u32 = 40_000;
 
 /// How many answers the memo keeps.
 pub(crate) const MEMO_ENTRIES: usize = 16_384;
@@ -88,7 +88,7 @@ impl Store {
     /// A store of the two leaves alone. Each domain is that of a level, in order.
     pub fn new(alloc: Global, domains: Vec<Domain>, limit: u32) -> Result<Store, NoMemory>
         requires codes { All IsDomain domains.items }
-        requires limit { limit ≤ NODE_LIMIT }
+        requires limit { limit ≤ SPLIT_LIMIT }
         ensures domains { IfOk result (λ store. store.domains ≡ domains.items) }
         ensures limit { IfOk result (λ store. store.limit ≡ limit) }
         ensures trees { IfOk result (λ store. trees store ≡ leaves) }

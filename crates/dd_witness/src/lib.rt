@@ -12,7 +12,7 @@ ghost use Rattle.dd_witness.specs.Descent.{IsFirstOther, AreLowest, IsReady, IsL
 use dd_store::{Id, Store, Stretch, View};
 
 /// A position of a level, and the child there.
-#[derive(Clone, Copy, Debug)]
+#[derive(Clone, Copy)]
 struct Choice {
     position: usize,
     child: Id,

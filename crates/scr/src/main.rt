@@ -1,8 +1,8 @@
 //! The program: the words of the command line, real files and standard output.
 #![tactic(auto)]
 
-use scr_cli::{Status, run};
-use scr_io::{FileShelf, OutSink};
+use base_io::{FileShelf, OutSink};
+use cli::{Status, run};
 use std::env;
 use std::io::ErrorKind;
 use std::process::ExitCode;

@@ -9,10 +9,7 @@ use Rattle.scr_spec.specs.Meaning.{Codes, code_of}
 use Rattle.scr_spec.specs.Domains.{IsWithin, IsTyped, domain_of}
 use Rattle.dd_formula.specs.Domains.{domain_bound}
 use Rattle.scr_spec.specs.Over.{variable_bound}
-
--- a code of a domain is within the domain's bound
-code_bounded : (d : Domain) (code : ℤ) → IsWithin d code → unsigned_abs code ≤ domain_bound d
-code_bounded d code h = grind (arith, ints)
+use Rattle.scr_spec.proofs.Sizes.{code_bounded}
 
 -- a code of a typed state is within the bound of its variable
 pub variable_bounded : (spec : Data) (codes : Codes) (v : ℕ) → IsTyped spec codes → v < length spec.variables → unsigned_abs (code_of codes v) ≤ variable_bound spec v

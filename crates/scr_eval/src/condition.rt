@@ -3,25 +3,12 @@ ghost use Rattle.std.specs.Prelude.{◌≡◌, IsTrue};
 ghost use Rattle.std.specs.List.{list_all, list_any};
 ghost use Rattle.scr_spec.specs.Shown.{data_of};
 ghost use Rattle.scr_spec.specs.Domains.{IsTyped};
-ghost use Rattle.scr_spec.specs.Meaning.{is_true, stands_in};
+ghost use Rattle.scr_spec.specs.Meaning.{is_true};
 ghost use Rattle.scr_spec.specs.Over.{is_cond_over};
 
 use crate::expr_value;
+use base::holds_between;
 use scr_spec::{Cond, Spec, State};
-use scr_text::Relation;
-
-fn holds_between(left: i64, relation: Relation, right: i64) -> bool
-    ensures { result ≡ stands_in relation left right }
-{
-    match relation {
-        Relation::Equal => left == right,
-        Relation::Differ => left != right,
-        Relation::Less => left < right,
-        Relation::AtMost => left <= right,
-        Relation::Greater => left > right,
-        Relation::AtLeast => left >= right,
-    }
-}
 
 /// Whether a condition is true at a state.
 #[cycle(holds)]

@@ -1,9 +1,9 @@
 -- The phrase of a condition, by what stands at its top.
 use Rattle.std.proofs.Common.{◌≡◌, append_assoc, Bool, List, [], ◌∷◌, ◌++◌, map, sym, ap, ◌∙◌}
-use Rattle.scr_text.specs.declared.word.Relation.{Relation}
-use Rattle.scr_text.specs.declared.word.Word.TheVariants as w
-use Rattle.scr_text.specs.declared.word.Keyword.TheVariants as k
-use Rattle.scr_text.specs.Words.{relation_sign}
+use Rattle.base.specs.declared.relation.Relation.{Relation}
+use Rattle.scr_tokens.specs.declared.word.Word.TheVariants as w
+use Rattle.scr_tokens.specs.declared.word.Keyword.TheVariants as k
+use Rattle.scr_tokens.specs.Words.{relation_sign}
 use Rattle.scr_spec.specs.Data.{Data}
 use Rattle.scr_spec.specs.declared.cond.Expr.{Expr}
 use Rattle.scr_spec.specs.declared.cond.Cond.{Cond, fold-roll-Cond}

@@ -2,12 +2,12 @@
 use Rattle.std.proofs.Common.{◌≡◌, ℕ, zero, suc, ◌+◌, ◌<◌, false, ◌==◌, List, [], ◌∷◌, ◌++◌, length, map, take, get_or, refl, sym, ap, ◌∙◌, append_assoc, arith, append-nil}
 use Rattle.std.specs.Prelude.{Result, Ok, Err, OnOk, codes}
 use Rattle.std.specs.List.{flat_map}
-use Rattle.scr_text.specs.declared.word.Word.{Word}
+use Rattle.scr_tokens.specs.declared.word.Word.{Word}
 use Rattle.scr_printer.specs.declared.line.Behind.TheVariants.{Opening}
 use Rattle.scr_printer.specs.Spelling.{spelling, behind_word, is_joined, gap, spaced}
 use Rattle.scr_printer.specs.Pages.{Page, blank, put, written}
-use Rattle.scr_text.specs.declared.word.Word.TheVariants as w
-use Rattle.scr_text.specs.declared.word.Sign.TheVariants as s
+use Rattle.scr_tokens.specs.declared.word.Word.TheVariants as w
+use Rattle.scr_tokens.specs.declared.word.Sign.TheVariants as s
 use Rattle.scr_printer.specs.Text.{line_text, lines_text}
 use Rattle.scr_printer.specs.Declarations.{name_words, names_words}
 use Rattle.scr_printer.specs.Conds.{joined, between}

@@ -1,11 +1,11 @@
 -- The words of conditions.
 use Rattle.std.specs.Prelude.{Bool, true, false, if◌then◌else◌, List, [], ◌∷◌, ◌++◌, map}
 use Rattle.std.specs.List.{flat_map}
-use Rattle.scr_text.specs.declared.word.Word.{Word}
-use Rattle.scr_text.specs.declared.word.Word.TheVariants as w
-use Rattle.scr_text.specs.declared.word.Sign.TheVariants as s
-use Rattle.scr_text.specs.declared.word.Keyword.TheVariants as k
-use Rattle.scr_text.specs.Words.{relation_sign}
+use Rattle.scr_tokens.specs.declared.word.Word.{Word}
+use Rattle.scr_tokens.specs.declared.word.Word.TheVariants as w
+use Rattle.scr_tokens.specs.declared.word.Sign.TheVariants as s
+use Rattle.scr_tokens.specs.declared.word.Keyword.TheVariants as k
+use Rattle.scr_tokens.specs.Words.{relation_sign}
 use Rattle.scr_spec.specs.Data.{Data}
 use Rattle.scr_spec.specs.declared.cond.Cond.{Cond, fold-Cond}
 use Rattle.scr_spec.specs.declared.cond.Cond.TheOpen.{Cond-F, Truth, Holds, Compare, Not, And, Or}

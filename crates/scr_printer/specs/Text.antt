@@ -2,11 +2,11 @@
 use Rattle.std.specs.Prelude.{ℕ, ℤ, pos, List, [], ◌∷◌, ◌++◌, map, Option, Some, None, slice_get, slice_index_or, codes}
 use Rattle.std.specs.List.{flat_map}
 use Rattle.std.specs.Option.{option_map_or}
-use Rattle.scr_text.specs.declared.word.Word.{Word}
-use Rattle.scr_text.specs.declared.word.Word.TheVariants as w
-use Rattle.scr_text.specs.declared.word.Sign.TheVariants as s
-use Rattle.scr_text.specs.declared.word.Keyword.{Keyword}
-use Rattle.scr_text.specs.declared.word.Keyword.TheVariants as k
+use Rattle.scr_tokens.specs.declared.word.Word.{Word}
+use Rattle.scr_tokens.specs.declared.word.Word.TheVariants as w
+use Rattle.scr_tokens.specs.declared.word.Sign.TheVariants as s
+use Rattle.scr_tokens.specs.declared.word.Keyword.{Keyword}
+use Rattle.scr_tokens.specs.declared.word.Keyword.TheVariants as k
 use Rattle.scr_spec.specs.Data.{Data}
 use Rattle.scr_spec.specs.declared.spec.TypeDef.{TypeDef}
 use Rattle.scr_spec.specs.declared.spec.Kind.{Kind}

@@ -2,18 +2,19 @@
 ghost use Rattle.std.specs.Prelude.{◌≡◌, ◌++◌, map, MatchResult, OnOk};
 ghost use Rattle.scr_spec.specs.Shown.{data_of};
 ghost use Rattle.scr_spec.specs.Data.{Data};
-ghost use Rattle.scr_text.specs.declared.word.Word.TheVariants as w;
+ghost use Rattle.scr_tokens.specs.declared.word.Word.TheVariants as w;
 ghost use Rattle.scr_printer.specs.Pages.{written};
 ghost use Rattle.scr_printer.specs.Text.{cond_text};
 ghost use Rattle.scr_printer.specs.Conds as text;
 
 use crate::page::Line;
 use crate::side::{put_side, put_truth};
+use base::NoMemory;
 use scr_spec::{Cond, Spec, variable_name};
-use scr_text::{Keyword, NoMemory, Sign};
+use scr_tokens::{Keyword, Sign, sign_of_relation};
 
 /// What stands at the top of a condition, which decides where it has parentheses round it.
-#[derive(Clone, Copy, Debug, PartialEq, Eq)]
+#[derive(Clone, Copy, PartialEq, Eq)]
 pub enum Top {
     /// TRUE, FALSE, a name, or NOT.
     Single,
@@ -90,7 +91,7 @@ pub(crate) fn put_cond(line: &mut Line, spec: &Spec, cond: &Cond) -> Result<(), 
         Cond::Holds(v) => line.put_name(variable_name(spec, *v)),
         Cond::Compare(left, relation, right) => {
             put_side(line, spec, left)?;
-            line.put_sign(relation.sign())?;
+            line.put_sign(sign_of_relation(*relation))?;
             put_side(line, spec, right)
         }
         Cond::Not(cond) => {

@@ -2,7 +2,7 @@
 #![tactic(auto, using(crate::proofs::Written::written_laws))]
 
 ghost use Rattle.std.specs.Prelude.{◌≡◌, ◌++◌, List, [], ◌∷◌, map, OnOk};
-ghost use Rattle.scr_text.specs.declared.word.Word.TheVariants as w;
+ghost use Rattle.scr_tokens.specs.declared.word.Word.TheVariants as w;
 ghost use Rattle.scr_spec.specs.Shown.{data_of};
 ghost use Rattle.scr_printer.specs.Pages.{written};
 ghost use Rattle.scr_printer.specs.Conds.{joined};
@@ -14,8 +14,9 @@ use crate::names::type_name;
 use crate::page::Line;
 use crate::side::put_int;
 use crate::value::put_value;
+use base::{Name, NoMemory};
 use scr_spec::{Constant, Domain, Kind, Role, Shape, Spec, TypeDef, Variable};
-use scr_text::{Keyword, Name, NoMemory, Sign};
+use scr_tokens::{Keyword, Sign};
 
 // ---- lists of names
 

@@ -5,8 +5,8 @@ ghost use Rattle.scr_spec.specs.Over as over;
 ghost use Rattle.scr_spec.specs.Types as types;
 ghost use Rattle.scr_printer.specs.Names as text;
 
+use base::Name;
 use scr_spec::{Kind, Owner, Shape, Spec};
-use scr_text::Name;
 
 pub(crate) fn type_name(spec: &Spec, k: usize) -> &[u8]
     ensures { result.now ≡ text.type_name (data_of spec.now) k }

@@ -1,17 +1,18 @@
 //! A line that is being written.
 ghost use Rattle.std.specs.Prelude.{◌≡◌, ◌++◌, pos, IfOk, OnOk};
-ghost use Rattle.scr_text.specs.declared.word.Word.TheVariants as w;
+ghost use Rattle.scr_tokens.specs.declared.word.Word.TheVariants as w;
 ghost use Rattle.scr_printer.specs.Spelling.{gap};
 ghost use Rattle.scr_printer.specs.Pages as spec;
 
 use crate::line::{Behind, keyword_text, sign_text};
+use base::{NoMemory, push_number};
 use itoa::Buffer;
-use scr_text::{Keyword, NoMemory, Sign, push_number};
+use scr_tokens::{Keyword, Sign};
 use std::alloc::Global;
 use std::marker::Model;
 
 /// The text of a line so far, and what its next word has before it.
-#[derive(Debug, Drop)]
+#[derive(Drop)]
 pub(crate) struct Line {
     text: Vec<u8>,
     behind: Behind,

@@ -11,8 +11,8 @@ ghost use Rattle.scr_printer.specs.Declarations as text;
 use crate::names::name_at;
 use crate::page::Line;
 use crate::side::{put_int, put_truth};
+use base::NoMemory;
 use scr_spec::{Kind, Shape, Spec, TypeDef};
-use scr_text::NoMemory;
 
 fn put_shape_value(line: &mut Line, shape: &Shape, code: i64) -> Result<(), NoMemory>
     ensures { OnOk result (line.new ≡ written line.old (text.shape_value_words shape.now code)) }

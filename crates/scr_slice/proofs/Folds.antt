@@ -2,7 +2,7 @@
 use Rattle.std.proofs.Common.{◌≡◌, ℕ, Bool, true, ◌&&◌, ◌||◌, List, [], ◌∷◌, map, refl, sym, ap, subst, ◌∙◌}
 use Rattle.std.specs.List.{list_all, list_any}
 use Rattle.std.proofs.lemmas.Bool.{or_left, or_right}
-use Rattle.scr_text.specs.declared.word.Relation.{Relation}
+use Rattle.base.specs.declared.relation.Relation.{Relation}
 use Rattle.scr_spec.specs.declared.cond.Expr.{Expr}
 use Rattle.scr_spec.specs.declared.cond.Cond.{Cond, fold-Cond, fold-roll-Cond, ind-Cond}
 use Rattle.scr_spec.specs.declared.cond.Cond.TheOpen as cond

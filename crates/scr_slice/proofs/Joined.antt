@@ -1,7 +1,7 @@
 -- A condition that joins others: with other numbers, and what it mentions.
 use Rattle.std.proofs.Common.{◌≡◌, ℕ, Bool, List, map, sym, ap, ◌∙◌}
 use Rattle.std.specs.List.{list_any}
-use Rattle.scr_text.specs.declared.word.Relation.{Relation}
+use Rattle.base.specs.declared.relation.Relation.{Relation}
 use Rattle.scr_spec.specs.declared.cond.Expr.{Expr}
 use Rattle.scr_spec.specs.declared.cond.Cond.{Cond, fold-roll-Cond}
 use Rattle.scr_spec.specs.declared.cond.Cond.TheVariants.{Truth, Holds, Compare, Not, And, Or, rolls-Truth, rolls-Holds, rolls-Compare, rolls-Not, rolls-And, rolls-Or}

@@ -24,7 +24,7 @@ use Rattle.scr_depend.specs.Walks.{Walk, Needs}
 use Rattle.scr_depend.specs.Related.{bound_of, IsBounded, IsRelated}
 use Rattle.scr_depend.specs.Meets.{IsJudgedAt, CoversAt, MeetsChecks, IsRight}
 use Rattle.scr_depend.proofs.Dependent.{whole_graph}
-use Rattle.scr_next.proofs.Order.{table_variable, monitored_within}
+use Rattle.run_step.proofs.Order.{table_variable, monitored_within}
 use Rattle.scr_slice.specs.Mentions.{table_mentions, mentions_in}
 use Rattle.scr_slice.specs.Renumbered.{row_with, table_with}
 use Rattle.scr_slice.specs.Slices.{IsKeepable, IsSlice, number_in, kept_codes}

@@ -25,7 +25,7 @@ use Rattle.scr_spec.specs.declared.table.Cell.{Cell}
 use Rattle.scr_spec.specs.declared.table.Cell.TheVariants as cell
 use Rattle.scr_spec.specs.declared.table.Row.{Row}
 use Rattle.scr_spec.specs.declared.table.Table.{Table}
-use Rattle.scr_text.specs.declared.spelling.TheConstants.{NUMBER_LIMIT}
+use Rattle.base.specs.declared.limits.TheConstants.{NUMBER_LIMIT}
 use Rattle.scr_spec.specs.declared.limits.TheConstants.{SIDE_LIMIT, ROW_LIMIT}
 use Rattle.scr_spec.specs.Types.{is_narrow, kind_modes, shape_labels}
 use Rattle.dd_formula.specs.Domains.{domain_bound}

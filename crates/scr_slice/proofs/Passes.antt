@@ -11,7 +11,7 @@ use Rattle.scr_spec.specs.declared.table.Table.{Table}
 use Rattle.scr_spec.specs.Sound.{IsSound}
 use Rattle.scr_spec.proofs.Kept.{rules_kept}
 use Rattle.scr_depend.specs.Meets.{IsRight, AreRight}
-use Rattle.scr_next.proofs.Lists.{any_there}
+use Rattle.run_step.proofs.Lists.{any_there}
 
 not_any : (b c : Bool) → not b && c ≡ true → b ≡ true → ⊥
 not_any b c h e = false≢true (ap not (sym e) ∙ (and_parts (not b) c h).0)

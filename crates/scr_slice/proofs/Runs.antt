@@ -13,11 +13,11 @@ use Rattle.scr_spec.specs.declared.spec.Variable.{Variable}
 use Rattle.scr_spec.specs.Meaning.{Codes, code_of}
 use Rattle.scr_depend.specs.Graphs.{is_among}
 use Rattle.scr_depend.specs.declared.order.Order.{Order}
-use Rattle.scr_next.specs.Runs.{IsConsistent, IsInput, IsStep, Leads, IsRun, ComeInTurn, written_codes, AreValid}
+use Rattle.run_step.specs.Runs.{IsConsistent, IsInput, IsStep, Leads, IsRun, ComeInTurn, written_codes, AreValid}
 use Rattle.scr_depend.specs.Passes.{PassesChecks}
-use Rattle.scr_next.proofs.Order.{placed, monitored_within}
-use Rattle.scr_next.proofs.Settle.{set_other}
-use Rattle.scr_next.proofs.Next.{step_consistent}
+use Rattle.run_step.proofs.Order.{placed, monitored_within}
+use Rattle.run_step.proofs.Settle.{set_other}
+use Rattle.run_step.proofs.Next.{step_consistent}
 use Rattle.scr_slice.specs.Slices.{IsKeepable, IsSlice, number_in, kept_codes, kept_input, kept_inputs, states_after, kept_states}
 use Rattle.scr_slice.proofs.Numbers.{number_there, number_once, number_code, variable_at, one_each}
 use Rattle.scr_slice.proofs.Steps.{number_of, initial_kept, input_kept, step_kept}

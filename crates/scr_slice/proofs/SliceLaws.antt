@@ -1,9 +1,9 @@
 -- The laws of slices.
 use Rattle.scr_depend.proofs.Dependent.{one_order}
 use Rattle.scr_depend.specs.Dependencies.{read_lists}
-use Rattle.scr_next.proofs.Order.{checked}
-use Rattle.scr_next.proofs.Order.{placed}
-use Rattle.scr_next.proofs.Runs.{one_next_state}
+use Rattle.run_step.proofs.Order.{checked}
+use Rattle.run_step.proofs.Order.{placed}
+use Rattle.run_step.proofs.Runs.{one_next_state}
 use Rattle.scr_slice.proofs.Checks.{circular_back}
 use Rattle.scr_slice.proofs.Declared.{mentioned_within}
 use Rattle.scr_slice.proofs.Lift.{right_kept}

@@ -17,8 +17,8 @@ use Rattle.scr_spec.specs.Roles.{is_monitored_role}
 use Rattle.scr_spec.specs.Relations.{is_monitored, is_dependent, table_of, is_condition, has_condition_table, some_taken, table_relates, meets_own, meets_relation}
 use Rattle.scr_depend.specs.Graphs.{is_among}
 use Rattle.scr_depend.specs.Related.{bound_of, IsBounded}
-use Rattle.scr_next.specs.Runs.{init_of, IsConsistent, IsInitial, IsInput, IsStep}
-use Rattle.scr_next.proofs.Order.{table_variable, condition_table, dependent_within, monitored_within}
+use Rattle.run_step.specs.Runs.{init_of, IsConsistent, IsInitial, IsInput, IsStep}
+use Rattle.run_step.proofs.Order.{table_variable, condition_table, dependent_within, monitored_within}
 use Rattle.scr_slice.specs.Mentions.{table_mentions}
 use Rattle.scr_slice.specs.Renumbered.{table_with}
 use Rattle.scr_slice.specs.Slices.{IsClosed, IsSlice, number_in, kept_codes, kept_input}

@@ -7,7 +7,7 @@ use Rattle.scr_spec.specs.declared.state.Input.{Input}
 use Rattle.scr_depend.specs.declared.order.Order.{Order}
 use Rattle.scr_spec.specs.Sound.{IsSound}
 use Rattle.scr_depend.specs.Graphs.{is_among}
-use Rattle.scr_next.specs.Runs.{IsConsistent, IsStep, IsRun, AreValid}
+use Rattle.run_step.specs.Runs.{IsConsistent, IsStep, IsRun, AreValid}
 use Rattle.scr_depend.specs.Passes.{PassesChecks}
 use Rattle.scr_slice.specs.Mentions.{cond_mentions}
 use Rattle.scr_slice.specs.Renumbered.{cond_with}

@@ -7,8 +7,9 @@ ghost use Rattle.scr_slice.specs.Slices.{AreKept};
 ghost use Rattle.scr_slice.specs.Marks.{mentions_below, mention_list, mention_lists, list_at, named_below, marked_below, next_of, IsNextMark, AreWithin, IsSpread};
 
 use crate::mentions::table_mentions;
+use base::NoMemory;
+use scr_depend::is_among;
 use scr_spec::{Spec, Table};
-use scr_text::NoMemory;
 use sqlite_items::Items;
 use std::alloc::Global;
 
@@ -58,14 +59,6 @@ fn list_at(lists: &[Items<usize>], v: usize) -> &[usize]
         Some(list) => list.as_slice(),
         None => &[],
     }
-}
-
-/// Whether the number is in the list.
-#[tactic(auto, unfolding(scr_depend::specs::Graphs::is_among))]
-pub(crate) fn is_among(list: &[usize], x: usize) -> bool
-    ensures { result ≡ is_among list.now x }
-{
-    list.iter().any(|y| *y == x)
 }
 
 /// The mark of the variable. Behind the last one there is none.

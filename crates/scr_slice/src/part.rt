@@ -6,80 +6,12 @@ ghost use Rattle.scr_depend.specs.Graphs.{is_among};
 ghost use Rattle.scr_slice.specs.Renumbered.{table_with};
 ghost use Rattle.scr_slice.specs.Slices.{IsKeepable, IsSlice, number_in};
 
-use crate::closure::is_among;
 use crate::renumbered::table;
-use scr_depend::Checked;
-use scr_spec::{Constant, Kind, Shape, Spec, Table, TypeDef, Variable};
-use scr_text::{Name, NoMemory};
+use base::NoMemory;
+use scr_depend::{Checked, is_among};
+use scr_spec::{Spec, Table, Variable, copy_constants, copy_types, copy_variable};
 use sqlite_items::Items;
 use std::alloc::Global;
-
-fn copy_names(alloc: Global, names: &[Name]) -> Result<Items<Name>, NoMemory>
-    ensures { IfOk result (λ copy. copy ≡ names.now) }
-{
-    let mut copy = Items::new(alloc);
-    for name in names {
-        copy.push(name.copy(alloc)?)?;
-    }
-    Ok(copy)
-}
-
-fn copy_shape(alloc: Global, shape: &Shape) -> Result<Shape, NoMemory>
-    ensures { IfOk result (λ copy. copy ≡ shape.now) }
-{
-    match shape {
-        Shape::Range(domain) => Ok(Shape::Range(*domain)),
-        Shape::Labels(names) => Ok(Shape::Labels(copy_names(alloc, names.as_slice())?)),
-    }
-}
-
-fn copy_types(alloc: Global, types: &[TypeDef]) -> Result<Items<TypeDef>, NoMemory>
-    ensures { IfOk result (λ copy. copy ≡ types.now) }
-{
-    let mut copy = Items::new(alloc);
-    for declared in types {
-        copy.push(TypeDef {
-            name: declared.name.copy(alloc)?,
-            shape: copy_shape(alloc, &declared.shape)?,
-        })?;
-    }
-    Ok(copy)
-}
-
-fn copy_constants(alloc: Global, constants: &[Constant]) -> Result<Items<Constant>, NoMemory>
-    ensures { IfOk result (λ copy. copy ≡ constants.now) }
-{
-    let mut copy = Items::new(alloc);
-    for constant in constants {
-        copy.push(Constant {
-            name: constant.name.copy(alloc)?,
-            value: constant.value,
-        })?;
-    }
-    Ok(copy)
-}
-
-fn copy_kind(alloc: Global, kind: &Kind) -> Result<Kind, NoMemory>
-    ensures { IfOk result (λ copy. copy ≡ kind.now) }
-{
-    match kind {
-        Kind::Boolean => Ok(Kind::Boolean),
-        Kind::Named(k) => Ok(Kind::Named(*k)),
-        Kind::Modes(modes) => Ok(Kind::Modes(copy_names(alloc, modes.as_slice())?)),
-    }
-}
-
-fn copy_variable(alloc: Global, variable: &Variable) -> Result<Variable, NoMemory>
-    ensures { IfOk result (λ copy. copy ≡ variable.now) }
-{
-    Ok(Variable {
-        name: variable.name.copy(alloc)?,
-        role: variable.role,
-        kind: copy_kind(alloc, &variable.kind)?,
-        init: variable.init,
-        bound: variable.bound,
-    })
-}
 
 /// The variable with this number.
 fn variable_at(alloc: Global, variables: &[Variable], v: usize) -> Result<Variable, NoMemory>

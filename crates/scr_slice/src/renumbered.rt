@@ -5,8 +5,8 @@ ghost use Rattle.std.specs.Option.{option_map};
 ghost use Rattle.scr_slice.specs.Slices.{number_in};
 ghost use Rattle.scr_slice.specs.Renumbered.{owner_with, operand_with, item_with, side_with, cond_with, change_with, prim_with, event_with, cell_with, row_with, table_with};
 
+use base::NoMemory;
 use scr_spec::{Cell, Change, Cond, Event, Expr, Item, Operand, Owner, Primitive, Row, Table};
-use scr_text::NoMemory;
 use sqlite_items::{Boxed, Items};
 use std::alloc::Global;
 

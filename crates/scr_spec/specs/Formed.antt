@@ -2,7 +2,7 @@
 -- prime may stand.
 use Rattle.std.specs.Prelude.{ℕ, unsigned_abs, Bool, true, false, ◌&&◌, nat_le, length, Option, is_none}
 use Rattle.std.specs.List.{list_all}
-use Rattle.scr_text.specs.declared.spelling.TheConstants.{NUMBER_LIMIT}
+use Rattle.base.specs.declared.limits.TheConstants.{NUMBER_LIMIT}
 use Rattle.scr_spec.specs.declared.limits.TheConstants.{FACTOR_LIMIT, ITEM_LIMIT}
 use Rattle.scr_spec.specs.declared.cond.Operand.{Operand}
 use Rattle.scr_spec.specs.declared.cond.Operand.TheVariants.{One, Truth as Flag, Constant, Label, Variable, Primed}

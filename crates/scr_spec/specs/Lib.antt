@@ -22,3 +22,4 @@ pub mod Values
 pub mod Relations
 pub mod Sound
 pub mod Laws
+pub mod Limits

@@ -8,10 +8,10 @@ use Rattle.scr_spec.specs.declared.cond.Operand.{Operand}
 use Rattle.scr_spec.specs.declared.cond.Operand.TheVariants.{One, Truth as Flag, Constant, Label, Variable, Primed}
 use Rattle.scr_spec.specs.declared.cond.Item.{Item}
 use Rattle.scr_spec.specs.declared.cond.Expr.{Expr}
-use Rattle.scr_text.specs.declared.word.Relation.{Relation}
-use Rattle.scr_text.specs.declared.word.Relation.TheVariants.{Equal, Differ, Less, AtMost, Greater, AtLeast}
+use Rattle.base.specs.declared.relation.Relation.{Relation}
 use Rattle.scr_spec.specs.declared.cond.Cond.{Cond, fold-Cond}
 use Rattle.scr_spec.specs.declared.cond.Cond.TheOpen.{Cond-F, Truth, Holds, Compare, Not, And, Or}
+use Rattle.base.specs.Relations.{stands_in}
 
 -- one code for each variable
 abbrev pub Codes : Type 0
@@ -46,15 +46,6 @@ item_value spec old new item = item.factor *ℤ operand_value spec old new item.
 -- the sum of factor times operand
 abbrev pub side_value : Data → Codes → Codes → Expr → ℤ
 side_value spec old new e = fold (λ sum item. sum +ℤ item_value spec old new item) (pos 0) e.items
-
--- the numbers stand in the relation
-abbrev pub stands_in : Relation → ℤ → ℤ → Bool
-stands_in Equal x y = int_eq x y
-stands_in Differ x y = not (int_eq x y)
-stands_in Less x y = int_lt x y
-stands_in AtMost x y = int_le x y
-stands_in Greater x y = int_lt y x
-stands_in AtLeast x y = int_le y x
 
 -- the truth of a condition from the truths of its parts
 abbrev pub truth_step : Data → Codes → Cond-F Bool → Bool

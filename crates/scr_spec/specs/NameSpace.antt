@@ -1,9 +1,9 @@
 -- The names that a specification declares.
-pub use Rattle.scr_text.specs.Piece.{is_spelt}
+pub use Rattle.base.specs.Bytes.{is_spelt}
 use Rattle.std.specs.Prelude.{ℕ, Bool, ◌&&◌, nat_le, List, [], ◌∷◌, ◌++◌, length, is_none}
 use Rattle.std.specs.List.{flat_map}
-use Rattle.scr_text.specs.declared.lex.TheConstants.{NAME_LIMIT}
-use Rattle.scr_text.specs.Words.{keyword_of}
+use Rattle.base.specs.declared.limits.TheConstants.{NAME_LIMIT}
+use Rattle.scr_tokens.specs.Words.{keyword_of}
 use Rattle.scr_spec.specs.declared.spec.TypeDef.{TypeDef}
 use Rattle.scr_spec.specs.declared.spec.Constant.{Constant}
 use Rattle.scr_spec.specs.declared.spec.Variable.{Variable}

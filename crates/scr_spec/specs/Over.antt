@@ -2,7 +2,7 @@
 use Rattle.std.specs.Prelude.{ℕ, ◌*◌, ℤ, pos, unsigned_abs, int_lt, int_le, Bool, true, ◌&&◌, nat_lt, nat_le, List, [], length, sum_by, slice_get}
 use Rattle.std.specs.Option.{option_map_or}
 use Rattle.std.specs.List.{list_all}
-use Rattle.scr_text.specs.declared.spelling.TheConstants.{NUMBER_LIMIT}
+use Rattle.base.specs.declared.limits.TheConstants.{NUMBER_LIMIT}
 use Rattle.scr_spec.specs.Data.{Data}
 use Rattle.scr_spec.specs.declared.limits.TheConstants.{SIDE_LIMIT}
 use Rattle.scr_spec.specs.declared.cond.Owner.{Owner}

@@ -13,8 +13,8 @@ use Rattle.scr_spec.specs.declared.cond.Item.{Item}
 use Rattle.scr_spec.specs.declared.cond.Expr.{Expr}
 use Rattle.scr_spec.specs.declared.cond.Cond.{Cond, fold-Cond}
 use Rattle.scr_spec.specs.declared.cond.Cond.TheOpen.{Cond-F, Truth, Holds, Compare, Not, And, Or}
-use Rattle.scr_text.specs.declared.word.Relation.{Relation}
-use Rattle.scr_text.specs.declared.word.Relation.TheVariants.{Equal, Differ, Less, AtMost, Greater, AtLeast}
+use Rattle.base.specs.declared.relation.Relation.{Relation}
+use Rattle.base.specs.declared.relation.Relation.TheVariants.{Equal, Differ, Less, AtMost, Greater, AtLeast}
 
 -- ---- sides
 

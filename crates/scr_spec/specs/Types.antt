@@ -2,7 +2,7 @@
 use Rattle.std.specs.Prelude.{ℕ, ◌-◌, ℤ, pos, ◌-ℤ◌, unsigned_abs, int_le, Bool, true, ◌&&◌, nat_lt, nat_le, List, [], length, is_some}
 use Rattle.std.specs.Option.{option_map_or}
 use Rattle.dd_formula.specs.declared.domain.Domain.{Domain}
-use Rattle.scr_text.specs.declared.spelling.TheConstants.{NUMBER_LIMIT}
+use Rattle.base.specs.declared.limits.TheConstants.{NUMBER_LIMIT}
 use Rattle.scr_spec.specs.declared.limits.TheConstants.{LABEL_LIMIT, RANGE_LIMIT}
 use Rattle.scr_spec.specs.declared.spec.Shape.{Shape}
 use Rattle.scr_spec.specs.declared.spec.Shape.TheVariants.{Range, Labels}

@@ -2,18 +2,18 @@
 //!
 //! Variables, constants and types go by their numbers, in order of declaration from 0.
 
-use scr_text::Relation;
+use base::Relation;
 use sqlite_items::{Boxed, Items};
 
 /// Whose list a label stands in: that of a type, or the modes of a class.
-#[derive(Clone, Copy, Debug, PartialEq, Eq)]
+#[derive(Clone, Copy, PartialEq, Eq)]
 pub enum Owner {
     Named(usize),
     Class(usize),
 }
 
 /// What an item multiplies. A primed variable is read in the new state.
-#[derive(Clone, Copy, Debug, PartialEq, Eq)]
+#[derive(Clone, Copy, PartialEq, Eq)]
 pub enum Operand {
     One,
     Truth(bool),
@@ -24,20 +24,20 @@ pub enum Operand {
 }
 
 /// A factor times an operand.
-#[derive(Clone, Copy, Debug, PartialEq, Eq)]
+#[derive(Clone, Copy, PartialEq, Eq)]
 pub struct Item {
     pub factor: i64,
     pub operand: Operand,
 }
 
 /// A side: the sum of its items.
-#[derive(Debug, Drop)]
+#[derive(Drop)]
 pub struct Expr {
     pub items: Items<Item>,
 }
 
 /// A condition. `Holds` names a Boolean variable. In a text `And` and `Or` have two members or more.
-#[derive(Debug, Drop)]
+#[derive(Drop)]
 pub enum Cond {
     Truth(bool),
     Holds(usize),

@@ -2,6 +2,7 @@
 #![tactic(auto)]
 
 mod cond;
+mod copy;
 mod law;
 mod limits;
 mod numbers;
@@ -12,8 +13,9 @@ mod table;
 mod variables;
 
 pub use cond::{Cond, Expr, Item, Operand, Owner};
+pub use copy::{copy_constants, copy_kind, copy_names, copy_types, copy_variable};
 pub use dd_formula::Domain;
-pub use law::bounded_depth;
+pub use law::{bounded_depth, limits_of_specifications};
 pub use limits::{
     CELL_LIMIT, CONSTANT_LIMIT, FACTOR_LIMIT, ITEM_LIMIT, LABEL_LIMIT, NESTING_LIMIT, NOT_LIMIT,
     RANGE_LIMIT, ROW_LIMIT, SIDE_LIMIT, TYPE_LIMIT, VARIABLE_LIMIT,

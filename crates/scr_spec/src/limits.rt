@@ -1,4 +1,4 @@
-//! The limits of a specification. Those of a line, a name and a number are in `scr_text`.
+//! The limits of a specification. Those of a line, a name and a number are in `base`.
 
 /// The most types.
 pub const TYPE_LIMIT: usize = 64;

@@ -3,7 +3,7 @@
 use crate::cond::Owner;
 
 /// Which values may be compared: two integers, two Booleans, or two labels of the same list.
-#[derive(Clone, Copy, Debug, PartialEq, Eq)]
+#[derive(Clone, Copy, PartialEq, Eq)]
 pub enum Sort {
     Integer,
     Boolean,

@@ -4,12 +4,12 @@ ghost use Rattle.scr_spec.specs.Domains.{list_domain, shape_domain, kind_domain}
 ghost use Rattle.scr_spec.specs.Sound.{IsSound};
 
 use crate::table::Table;
+use base::Name;
 use dd_formula::Domain;
-use scr_text::Name;
 use sqlite_items::Items;
 
 /// What a variable is for. `Mode` is a mode class.
-#[derive(Clone, Copy, Debug, PartialEq, Eq)]
+#[derive(Clone, Copy, PartialEq, Eq)]
 pub enum Role {
     Monitored,
     Mode,
@@ -18,28 +18,28 @@ pub enum Role {
 }
 
 /// The values of a declared type: a range of integers, or a list of enumerators.
-#[derive(Debug, Drop)]
+#[derive(Drop)]
 pub enum Shape {
     Range(Domain),
     Labels(Items<Name>),
 }
 
 /// A `TYPE` line.
-#[derive(Debug, Drop)]
+#[derive(Drop)]
 pub struct TypeDef {
     pub name: Name,
     pub shape: Shape,
 }
 
 /// A `CONST` line.
-#[derive(Debug, Drop)]
+#[derive(Drop)]
 pub struct Constant {
     pub name: Name,
     pub value: i64,
 }
 
 /// The kind of a variable's values: `BOOLEAN`, a declared type, or the modes of a class.
-#[derive(Debug, Drop)]
+#[derive(Drop)]
 pub enum Kind {
     Boolean,
     Named(usize),
@@ -47,7 +47,7 @@ pub enum Kind {
 }
 
 /// A variable: its initial code where one is written, and its bound where a `NAT` line gives one.
-#[derive(Debug, Drop)]
+#[derive(Drop)]
 pub struct Variable {
     pub name: Name,
     pub role: Role,
@@ -57,7 +57,7 @@ pub struct Variable {
 }
 
 /// A specification: what a text spells. Its type keeps the rules of `IsSound`.
-#[derive(Debug, Drop)]
+#[derive(Drop)]
 pub struct Spec {
     pub name: Name,
     pub types: Items<TypeDef>,

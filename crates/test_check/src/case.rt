@@ -1,7 +1,7 @@
 //! A text that is changed line by line, and what a command answers on it.
 
-use scr_cli::run;
-use scr_io::{MemoryFile, MemoryShelf, MemorySink};
+use base_io::{MemoryFile, MemoryShelf, MemorySink};
+use cli::run;
 use std::alloc::{AllocError, Global};
 
 /// How many bytes an answer has at the most.

@@ -3,8 +3,8 @@
 ghost use Rattle.std.specs.Prelude.{◌≡◌, IfOk};
 ghost use Rattle.test_diagrams.specs.Worked.{is_one, are_one};
 
+use base::NoMemory;
 use dd_formula::{Formula, Linear, Op, Term};
-use scr_text::NoMemory;
 use sqlite_items::Items;
 use std::alloc::Global;
 

@@ -11,7 +11,7 @@ use dd_witness::least;
 use std::alloc::Global;
 
 /// What `least` found, and how many nodes the store had.
-#[derive(Debug, Drop)]
+#[derive(Drop)]
 pub(crate) struct Least {
     pub count: u32,
     pub found: bool,

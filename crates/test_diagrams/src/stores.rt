@@ -8,10 +8,10 @@ ghost use Rattle.dd_build.specs.Built.{Keeps};
 ghost use Rattle.dd_build.specs.Atoms.{IsAtomOver};
 ghost use Rattle.test_diagrams.specs.Worked.{levels_to};
 
+use base::NoMemory;
 use dd_build::atom;
 use dd_formula::{Domain, Linear, Op, Term};
 use dd_store::{Id, Store, StoreFault};
-use scr_text::NoMemory;
 use sqlite_items::Items;
 use std::alloc::Global;
 

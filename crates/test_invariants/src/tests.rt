@@ -1,8 +1,8 @@
 //! Invariants of two small mode classes, with the rounds and the limit that are wanted.
 ghost use Rattle.std.specs.Prelude.{◌≤◌};
 
-use scr_candidates::Candidate;
-use scr_invariants::{Derived, derive, is_class};
+use prove_candidates::Candidate;
+use prove_invariants::{Derived, derive, is_class};
 use scr_spec::Cond;
 use std::alloc::Global;
 use std::test::Fail;

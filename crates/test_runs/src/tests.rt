@@ -1,8 +1,8 @@
 //! Runs of a small specification, with the states and faults that are wanted.
 
 use crate::checked;
-use scr_next::initial;
-use scr_simulator::{ScriptFault, Simulator};
+use run_script::{ScriptFault, Simulator};
+use run_step::initial;
 use std::test::Fail;
 
 const TEXT: &str =

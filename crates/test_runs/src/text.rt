@@ -1,10 +1,10 @@
 //! From a text to a specification that passed its checks.
 
+use prove_tables::{Outcome, check};
 use scr_depend::Checked;
-use scr_reader::read;
+use scr_parse::read;
+use scr_resolve::resolve;
 use scr_spec::Spec;
-use scr_types::resolve;
-use scr_verdict::{Outcome, check};
 use std::alloc::Global;
 
 fn specification(alloc: Global, text: &[u8]) -> Option<Spec> {

@@ -1,7 +1,7 @@
 use Rattle.std.proofs.Common.{◌≡◌, ◌∙◌, [], ◌∷◌, ◌++◌, refl, ap}
-use Rattle.scr_text.specs.declared.word.Word.TheVariants as w
-use Rattle.scr_text.specs.declared.word.Keyword.TheVariants as k
-use Rattle.scr_text.specs.Words.{relation_sign}
+use Rattle.scr_tokens.specs.declared.word.Word.TheVariants as w
+use Rattle.scr_tokens.specs.declared.word.Keyword.TheVariants as k
+use Rattle.scr_tokens.specs.Words.{relation_sign}
 use Rattle.scr_spec.specs.Shown.{data_of}
 use Rattle.scr_printer.specs.Pages.{put, written}
 use Rattle.scr_printer.specs.Sides.{side_words}
@@ -13,7 +13,7 @@ use Rattle.scr_printer.proofs.cond.+conds.Goals as goal
 pub put_cond-returns-in_ok-put_sign-in-Compare : goal.put_cond-returns-in_ok-put_sign-in-Compare
 put_cond-returns-in_ok-put_sign-in-Compare t c =
     let sign : c.put_sign.new.self ≡ put c.put_side.new.line (w.Sign (relation_sign c.in-Compare.relation)) =
-    c.in_ok-put_sign-in-Compare.ensures ∙ ap (λ sign. put c.put_side.new.line (w.Sign sign)) c.sign.ensures in
+    c.in_ok-put_sign-in-Compare.ensures ∙ ap (λ sign. put c.put_side.new.line (w.Sign sign)) c.sign_of_relation.ensures in
     onward _ _ _ _ (side_words (data_of c.args.spec.now) c.in-Compare.left ++ w.Sign (relation_sign c.in-Compare.relation) ∷ []) _ _ c.put_side-in-Compare.ensures
     (one_behind c.args.line.now c.put_side.new.line c.put_sign.new.self (side_words (data_of c.args.spec.now) c.in-Compare.left) (w.Sign (relation_sign c.in-Compare.relation))
     c.in_ok-put_side-in-Compare.ensures sign)

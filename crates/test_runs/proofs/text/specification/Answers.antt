@@ -1,4 +1,4 @@
-use Rattle.scr_reader.proofs.ReadableTexts.{reads_readable}
+use Rattle.scr_parse.proofs.ReadableTexts.{reads_readable}
 use Rattle.test_runs.proofs.text.specification.Goals as goal
 
 pub resolve-requires : goal.resolve-requires

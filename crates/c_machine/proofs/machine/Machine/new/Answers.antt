@@ -12,8 +12,7 @@ pub invariant_of-result : goal.invariant_of-result
 invariant_of-result c = record {
   numbered =
       c.in_ok-code.ensures
-      ∙ ap (λ (names : List (List ℕ)). resolved names (filter_map function_of c.as_slice-items.result.now)) c.in_ok-names.ensures
       ∙ ap (λ (items : List CItem). resolved (map (λ (o : CObject). o.name) (filter_map object_of items)) (filter_map function_of items)) c.as_slice-items.ensures;
   named = c.in_ok-setters.ensures ∙ ap (λ (items : List CItem). map (λ (f : CFunction). f.name) (filter_map setter_of items)) c.as_slice-items.ensures;
-  room = ap length (c.in_ok-row.ensures.items ∙ c.as_slice.ensures ∙ sym (c.in_ok-spare.ensures.items ∙ c.as_slice-2.ensures));
+  room = ap length (c.in_ok-row.ensures.row ∙ sym c.in_ok-row.ensures.spare);
 }

@@ -1,0 +1,4 @@
+pub mod Decimals
+pub mod FirstLine
+pub mod InTurn
+pub mod Sizes

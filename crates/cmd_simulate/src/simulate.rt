@@ -1,0 +1,58 @@
+//! The command `simulate`: the initial state, and the state after each input of a script.
+ghost use Rattle.std.specs.Prelude.{◌≤◌, false};
+ghost use Rattle.dd_store.specs.declared.store.TheConstants.{SPLIT_LIMIT};
+
+use crate::simulation::Simulation;
+use base::NoMemory;
+use base_io::{Shelf, Sink};
+use cmd_checked::check_file;
+use cmd_work::{Command, First, Loaded, Status, Stop, answer_lines};
+use scr_depend::Checked;
+use scr_parse::TEXT_LIMIT;
+use std::alloc::Global;
+
+/// The command `simulate`, with the limit on the distinct splits of each table.
+#[derive(Drop)]
+pub struct Simulate {
+    pub limit: u32,
+    pub ghost limited: { limit ≤ SPLIT_LIMIT },
+}
+
+impl Command for Simulate {
+    ghost use Rattle.scr_spec.specs.Shown.{data_of};
+    ghost use Rattle.scr_parse.specs.declared.text.TheConstants.{TEXT_LIMIT};
+    ghost use Rattle.cmd_checked.specs.Checking.{ReachesScript};
+    ghost use Rattle.cmd_simulate.specs.Simulates.{SimulatesFile, SimulateAnswers};
+
+    type Base = Checked;
+
+    ghost answers = { λ command. SimulateAnswers command.limit };
+
+    ghost reaches = { λ command. ReachesScript command.limit };
+
+    ghost goes = { λ _ checked. SimulatesFile (data_of checked.spec) };
+
+    ghost most_bytes = { λ _. TEXT_LIMIT };
+
+    ghost reads_first = { false };
+
+    fn most_bytes(&self) -> usize {
+        TEXT_LIMIT
+    }
+
+    fn first(&self, alloc: Global, file: Loaded) -> Result<First<Checked>, NoMemory> {
+        Ok(check_file(alloc, &file, self.limit)?.into())
+    }
+
+    fn go_on<S: Shelf, K: Sink>(
+        &self,
+        alloc: Global,
+        base: &Checked,
+        name: &str,
+        shelf: &mut S,
+        out: &mut K,
+    ) -> Result<Status, Stop> {
+        let mut simulation = Simulation::new(alloc, base)?;
+        answer_lines(&mut simulation, alloc, name, shelf, out)
+    }
+}

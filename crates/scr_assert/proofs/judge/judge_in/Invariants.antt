@@ -1,7 +1,0 @@
-use Rattle.std.proofs.Common.{take}
-use Rattle.scr_assert.specs.Judged.{HasEach}
-use Rattle.scr_assert.specs.Settings.{IsJudgedBy}
-use Rattle.scr_assert.proofs.judge.judge_in.Given as goal
-
-abbrev pub invariant-loop-x : goal.invariant-loop-x
-invariant-loop-x l = HasEach (IsJudgedBy l.setting (take l.x-index l.setting.monitored.now)) l.assertions l.verdicts

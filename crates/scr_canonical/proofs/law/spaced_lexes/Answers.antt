@@ -1,5 +1,0 @@
-use Rattle.scr_canonical.proofs.Spelt.{spaced_lexes}
-use Rattle.scr_canonical.proofs.law.spaced_lexes.Goals as goal
-
-pub returns : goal.returns
-returns c = spaced_lexes

@@ -1,5 +1,0 @@
-use Rattle.scr_reader.proofs.ReadableTexts.{reads_readable}
-use Rattle.scr_checking.proofs.spelling.spell_text.Goals as goal
-
-pub spell_draft-requires : goal.spell_draft-requires
-spell_draft-requires c = reads_readable c.args.text.now c.in-Ok.draft.statements c.in-Ok.ensures

@@ -1,5 +1,0 @@
-use Rattle.scr_cli.proofs.Printed.{printed_slice}
-use Rattle.scr_cli.proofs.top.printed_slice.Goals as goal
-
-pub returns : goal.returns
-returns c = printed_slice

@@ -1,6 +1,0 @@
-use Rattle.std.proofs.Common.{◌∙◌}
-use Rattle.scr_cover.proofs.Listed.{row_more}
-use Rattle.scr_cover.proofs.tally.push_row.Goals as goal
-
-pub loop-column-preserved : goal.loop-column-preserved
-loop-column-preserved c = c.in_ok-push.ensures.ok ∙ row_more c.args.counts.now c.loop-column.counts c.args.table c.args.row c.loop-column.column c.loop-column.invariant

@@ -1,8 +1,0 @@
-use Rattle.std.proofs.Common.{◌≡◌, ◌++◌, take}
-use Rattle.std.specs.List.{flat_map}
-use Rattle.scr_spec.specs.Shown.{data_of}
-use Rattle.scr_derive.specs.Texts.{found_text}
-use Rattle.scr_derive.proofs.text.push_all.Given as goal
-
-abbrev pub invariant-loop-found : goal.invariant-loop-found
-invariant-loop-found l = l.out.items ≡ l.initial.out.items ++ flat_map (found_text (data_of l.spec) l.class) (take l.found-index l.list)

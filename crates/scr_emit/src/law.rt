@@ -1,8 +1,0 @@
-//! The law of emitted units.
-ghost use Rattle.scr_emit.specs.Laws.{OneEmission};
-
-/// A file has one answer of `emit`, and never none. Where that ends with `Done`, the file's text spells
-/// a specification, and the answer is a text of a unit of C that runs as this one does.
-pub fn one_emission()
-    ensures { OneEmission }
-{}

@@ -1,5 +1,0 @@
-use Rattle.scr_format.proofs.Formatting.{one_formatting}
-use Rattle.scr_format.proofs.law.one_formatting.Goals as goal
-
-pub returns : goal.returns
-returns c = one_formatting

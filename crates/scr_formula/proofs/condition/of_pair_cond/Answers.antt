@@ -1,7 +1,0 @@
-use Rattle.scr_spec.specs.Shown.{data_of}
-use Rattle.scr_formula.specs.declared.side.Reading.TheVariants.{Across}
-use Rattle.scr_formula.proofs.ConditionMeasure.{over_of_ok}
-use Rattle.scr_formula.proofs.condition.of_pair_cond.Goals as goal
-
-pub returns-clause-narrow : goal.returns-clause-narrow
-returns-clause-narrow c = over_of_ok (data_of c.args.spec.now) Across c.args.c.now _ c.args.spec.now.sound c.requires c.condition_at.ensures

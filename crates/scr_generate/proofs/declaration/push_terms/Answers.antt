@@ -1,6 +1,0 @@
-use Rattle.scr_generate.specs.Chain.{term_line}
-use Rattle.scr_generate.proofs.Lines.{texts_more}
-use Rattle.scr_generate.proofs.declaration.push_terms.Goals as goal
-
-pub loop-k-preserved : goal.loop-k-preserved
-loop-k-preserved c = texts_more term_line _ _ _ _ c.in_ok-push_term.ensures c.loop-k.invariant

@@ -1,5 +1,0 @@
-use Rattle.scr_large.proofs.Once.{one_summary}
-use Rattle.scr_large.proofs.law.one_summary.Goals as goal
-
-pub returns : goal.returns
-returns c = one_summary

@@ -1,6 +1,0 @@
-use Rattle.std.proofs.Common.{◌+◌}
-use Rattle.scr_large.proofs.Parts.{own_of}
-use Rattle.scr_large.proofs.summary.large.Goals as goal
-
-pub returns-clause-status : goal.returns-clause-status
-returns-clause-status c = own_of (c.args.n + 1) c.as_slice.result.now c.summarize.result c.summarize.ensures

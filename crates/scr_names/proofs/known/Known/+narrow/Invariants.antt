@@ -1,7 +1,0 @@
-use Rattle.std.proofs.Common.{◌≡◌, drop}
-use Rattle.std.specs.List.{list_all}
-use Rattle.scr_names.specs.Conditions.{is_narrow_cond}
-use Rattle.scr_names.proofs.known.Known.+narrow.Given as goal
-
-abbrev pub invariant-are_narrow_conds-loop-cond : goal.invariant-are_narrow_conds-loop-cond
-invariant-are_narrow_conds-loop-cond l = list_all (is_narrow_cond l.self) (drop l.cond-index l.conds) ≡ list_all (is_narrow_cond l.self) l.conds

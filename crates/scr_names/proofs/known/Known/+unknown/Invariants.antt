@@ -1,7 +1,0 @@
-use Rattle.std.proofs.Common.{◌≡◌, drop}
-use Rattle.scr_names.specs.First.{first_in}
-use Rattle.scr_names.specs.Conditions.{unknown_cond}
-use Rattle.scr_names.proofs.known.Known.+unknown.Given as goal
-
-abbrev pub invariant-unknown_conds-loop-cond : goal.invariant-unknown_conds-loop-cond
-invariant-unknown_conds-loop-cond l = first_in (unknown_cond l.self) (drop l.cond-index l.conds) ≡ first_in (unknown_cond l.self) l.conds

@@ -1,6 +1,0 @@
-use Rattle.std.proofs.Common.{◌≡◌, take, map}
-use Rattle.scr_names.specs.Events.{prim_of}
-use Rattle.scr_names.proofs.known.Known.event_of.Given as goal
-
-abbrev pub invariant-loop-prim : goal.invariant-loop-prim
-invariant-loop-prim l = l.prims ≡ map (prim_of l.self) (take l.prim-index l.prim-items)

@@ -1,6 +1,0 @@
-use Rattle.std.proofs.Common.{◌≡◌, take, map}
-use Rattle.scr_names.specs.Sides.{item_of}
-use Rattle.scr_names.proofs.known.Known.side_of.Given as goal
-
-abbrev pub invariant-loop-item : goal.invariant-loop-item
-invariant-loop-item l = l.items ≡ map (item_of l.self) (take l.item-index l.item-items)

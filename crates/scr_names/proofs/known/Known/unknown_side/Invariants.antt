@@ -1,7 +1,0 @@
-use Rattle.std.proofs.Common.{◌≡◌, drop}
-use Rattle.scr_names.specs.First.{first_in}
-use Rattle.scr_names.specs.Sides.{unknown_item}
-use Rattle.scr_names.proofs.known.Known.unknown_side.Given as goal
-
-abbrev pub invariant-loop-item : goal.invariant-loop-item
-invariant-loop-item l = first_in (unknown_item l.self) (drop l.item-index l.item-items) ≡ first_in (unknown_item l.self) l.item-items

@@ -1,6 +1,0 @@
-use Rattle.std.proofs.Common.{sym}
-use Rattle.scr_reader.specs.Forms.{condition_head}
-use Rattle.scr_reader.proofs.form.read_condition_head.Goals as goal
-
-pub returns-clause-found : goal.returns-clause-found
-returns-clause-found c = condition_head (sym c.if-not-is_between.ensures) c.in_ok-name.ensures.found

@@ -1,5 +1,0 @@
-use Rattle.scr_reader.proofs.FormSteps.{term_at}
-use Rattle.scr_reader.proofs.form.read_term.Goals as goal
-
-pub returns-in_ok-name-in-Declarations-clause-found : goal.returns-in_ok-name-in-Declarations-clause-found
-returns-in_ok-name-in-Declarations-clause-found c = term_at c.in-Declarations.is c.in_ok-name-in-Declarations.ensures.found

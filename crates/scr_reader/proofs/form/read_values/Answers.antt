@@ -1,5 +1,0 @@
-use Rattle.scr_reader.proofs.FormSteps.{values_at}
-use Rattle.scr_reader.proofs.form.read_values.Goals as goal
-
-pub returns-in_ok-read_sides-in-Rows-clause-found : goal.returns-in_ok-read_sides-in-Rows-clause-found
-returns-in_ok-read_sides-in-Rows-clause-found c = values_at c.in-Rows.is c.in_ok-read_sides-in-Rows.ensures.found

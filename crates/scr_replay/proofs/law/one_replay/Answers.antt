@@ -1,5 +1,0 @@
-use Rattle.scr_replay.proofs.Files.{one_replay}
-use Rattle.scr_replay.proofs.law.one_replay.Goals as goal
-
-pub returns : goal.returns
-returns c = one_replay

@@ -1,5 +1,0 @@
-use Rattle.scr_simulate.proofs.Files.{one_simulation}
-use Rattle.scr_simulate.proofs.law.one_simulation.Goals as goal
-
-pub returns : goal.returns
-returns c = one_simulation

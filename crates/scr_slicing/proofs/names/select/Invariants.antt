@@ -1,7 +1,0 @@
-use Rattle.std.proofs.Common.{take, map, string_bytes}
-use Rattle.scr_spec.specs.Shown.{data_of}
-use Rattle.scr_slicing.specs.Names.{AreNumbers}
-use Rattle.scr_slicing.proofs.names.select.Given as goal
-
-abbrev pub invariant-loop-word : goal.invariant-loop-word
-invariant-loop-word l = AreNumbers (data_of l.spec) (map string_bytes (take l.word-index l.words)) l.numbers

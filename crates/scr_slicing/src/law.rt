@@ -1,7 +1,0 @@
-//! The law of slicing.
-ghost use Rattle.scr_slicing.specs.Laws.{OneSlicing};
-
-/// Files have one answer of `slice`, and never none; and what is written for names of variables is right.
-pub fn one_slicing()
-    ensures { OneSlicing }
-{}

@@ -1,5 +1,0 @@
-use Rattle.scr_text.proofs.Cutting.{one_lexing}
-use Rattle.scr_text.proofs.law.one_lexing.Goals as goal
-
-pub returns : goal.returns
-returns c = one_lexing

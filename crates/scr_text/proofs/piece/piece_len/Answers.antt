@@ -1,5 +1,0 @@
-use Rattle.scr_text.proofs.Longest.{cuts}
-use Rattle.scr_text.proofs.piece.piece_len.Goals as goal
-
-pub returns-clause-longest : goal.returns-clause-longest
-returns-clause-longest c = rw c.front_len.ensures.value (cuts c.args.bytes.now (rw (← c.front_len.ensures.value) c.front_len.ensures.within))

@@ -1,6 +1,0 @@
-pub mod Lines
-pub mod Piece
-pub mod Words
-pub mod Tokens
-pub mod Lexing
-pub mod Ends

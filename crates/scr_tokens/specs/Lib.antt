@@ -1,0 +1,4 @@
+pub mod Piece
+pub mod Words
+pub mod Tokens
+pub mod Lexing

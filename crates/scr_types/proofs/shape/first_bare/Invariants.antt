@@ -1,6 +1,0 @@
-use Rattle.std.proofs.Common.{◌≡◌, drop}
-use Rattle.scr_types.specs.Tables.{first_bare}
-use Rattle.scr_types.proofs.shape.first_bare.Given as goal
-
-abbrev pub invariant-loop-v : goal.invariant-loop-v
-invariant-loop-v l = first_bare l.tables l.v (drop l.v l.variables) ≡ first_bare l.tables 0 l.variables
