@@ -61,9 +61,14 @@ def find() -> str:
     if named:
         found = shutil.which(named)
         return found or stop(f"SCR names {named}, which is no program", NOT_BUILT)
-    beside = os.path.join(os.path.dirname(os.path.dirname(os.path.abspath(__file__))), "scr")
-    found = shutil.which(beside) or shutil.which("scr")
+    found = beside(sys.argv[0]) or beside(__file__) or shutil.which("scr")
     return found or stop("there is no program: set SCR, or put scr on the path", NOT_BUILT)
+
+
+def beside(file: str) -> Optional[str]:
+    """The launcher of the tree whose tools have this file, through links as they stand. Python resolves them in __file__ of a
+    module, and not in the name that a tool was called by."""
+    return shutil.which(os.path.join(os.path.dirname(os.path.dirname(os.path.abspath(file))), "scr"))
 
 
 def run(*words: str, seconds: Optional[float] = None) -> Answer:
