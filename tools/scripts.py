@@ -88,8 +88,8 @@ class Case(NamedTuple):
     expectations: List[Expectation]
 
 
-def read(path: str, above: Tuple[str, ...] = (), at: Optional[Place] = None) -> List[Statement]:
-    """The statements of a file and of those that it includes."""
+def read(path: str, above: Tuple[str, ...] = (), at: Optional[Place] = None, text: Optional[str] = None) -> List[Statement]:
+    """The statements of a file, or of its text as it stands in an editor, and of those that it includes."""
     here = at or Place(path, 1, 1)
     real = os.path.realpath(path)
     if real in above:
@@ -97,11 +97,12 @@ def read(path: str, above: Tuple[str, ...] = (), at: Optional[Place] = None) -> 
     if len(above) >= DEEPEST:
         raise Fault(here, f"more than {DEEPEST} files include each other")
     try:
-        with open(path, **ANY_BYTES) as file:
-            lines = lines_of(file.read())
+        if text is None:
+            with open(path, **ANY_BYTES) as file:
+                text = file.read()
     except (OSError, ValueError) as fault:
         raise Fault(here, f"{path} cannot be read: {getattr(fault, 'strerror', None) or fault}") from fault
-    return Blocks(path, (*above, real)).of(lines)
+    return Blocks(path, (*above, real)).of(lines_of(text))
 
 
 class Blocks:
@@ -290,11 +291,11 @@ def is_integer(text: str) -> bool:
     return digits.isascii() and digits.isdigit()
 
 
-def expand(path: str, document: Document) -> List[Case]:
+def expand(path: str, document: Document, text: Optional[str] = None) -> List[Case]:
     """The cases of a file: one of its own name where it has no CASE."""
     front: List[Statement] = []
     groups: List[Tuple[str, Place, List[Statement]]] = []
-    for it in flat(read(path)):
+    for it in flat(read(path, text=text)):
         if it.word == "CASE":
             groups.append((it.text[len("CASE") :].strip() or f"case {len(groups) + 1}", it.place, []))
         else:

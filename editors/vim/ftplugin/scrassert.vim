@@ -1,0 +1,3 @@
+" Assertions are checked with their specification.
+
+runtime! ftplugin/scr.vim

@@ -1,0 +1,5 @@
+" Comments of scripts.
+
+setlocal commentstring=#\ %s
+setlocal comments=:#
+let b:undo_ftplugin = 'setlocal commentstring< comments<'
