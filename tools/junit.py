@@ -38,7 +38,7 @@ def document(suites: List[Suite]) -> str:
     lines = ['<?xml version="1.0" encoding="UTF-8"?>']
     lines.append(f"<testsuites {counts([it for suite in suites for it in suite.results])}>")
     for suite in suites:
-        lines.append(f"  <testsuite name={quoted(suite.name)} {counts(suite.results)} skipped=\"0\">")
+        lines.append(f'  <testsuite name={quoted(suite.name)} {counts(suite.results)} skipped="0">')
         for it in suite.results:
             head = f"    <testcase name={quoted(it.name)} classname={quoted(suite.name)}"
             head += f' file={quoted(it.path)} line="{it.line}"'

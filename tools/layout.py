@@ -40,7 +40,9 @@ def formatted(text: str) -> List[str]:
     with file_with(text) as path:
         answer = program.run("format", path)
     if answer.status != program.DONE:
-        raise Refused(answer.lines[0] if answer.lines else f"scr format ended with status {answer.status}")
+        raise Refused(
+            answer.lines[0] if answer.lines else f"scr format ended with status {answer.status}"
+        )
     return answer.lines
 
 
@@ -75,7 +77,8 @@ def statements(document: Document) -> Dict[int, str]:
     """What scr format writes for the statement of each line, by its number.
 
     It joins the lines of a mode table that have the same source and target. So these are shown to it one by one: first the
-    text without the second and all further lines of such a pair, then with the second alone, and so on."""
+    text without the second and all further lines of such a pair, then with the second alone, and so on.
+    """
     keys = keys_of(document.lines)
     repeats = {number: key[-1] for number, key in keys.items() if key[0] == "change"}
     written: Dict[int, str] = {}
@@ -89,7 +92,9 @@ def statements(document: Document) -> Dict[int, str]:
     for variable in document.variables():
         if variable.init and variable.init.text in document.names and variable.type_name:
             # scr format writes the value of a constant here, where its name says more
-            written[variable.line] = re.sub(r"INIT .*", f"INIT {variable.init.text}", written[variable.line])
+            written[variable.line] = re.sub(
+                r"INIT .*", f"INIT {variable.init.text}", written[variable.line]
+            )
     return written
 
 
@@ -98,13 +103,21 @@ def in_columns(document: Document, written: Dict[int, str]) -> Dict[int, str]:
     aligned = dict(written)
     for table in document.tables:
         numbers = range(table.line, (table.end_line or table.line) + 1)
-        rows = {it: parts_of(written[it]) for it in numbers if it in written and it not in (table.line, table.end_line)}
+        rows = {
+            it: parts_of(written[it])
+            for it in numbers
+            if it in written and it not in (table.line, table.end_line)
+        }
         widths: List[int] = []
         for parts in rows.values():
             widths += [0] * (len(parts) - len(widths))
-            widths = [max(width, len(part)) for width, part in zip(widths, parts + [""] * len(widths))]
+            widths = [
+                max(width, len(part)) for width, part in zip(widths, parts + [""] * len(widths))
+            ]
         for number, parts in rows.items():
-            aligned[number] = "".join(part.ljust(width) for part, width in zip(parts, widths)).rstrip()
+            aligned[number] = "".join(
+                part.ljust(width) for part, width in zip(parts, widths)
+            ).rstrip()
     return aligned
 
 

@@ -24,7 +24,12 @@ from language import ANY_BYTES, Document, Line, Piece, lines_of
 MOST_STEPS = 100000
 DEEPEST = 16
 COMPARISONS: Dict[str, Callable[[int, int], bool]] = {
-    "=": operator.eq, "!=": operator.ne, "<": operator.lt, "<=": operator.le, ">": operator.gt, ">=": operator.ge,
+    "=": operator.eq,
+    "!=": operator.ne,
+    "<": operator.lt,
+    "<=": operator.le,
+    ">": operator.gt,
+    ">=": operator.ge,
 }
 
 
@@ -88,7 +93,9 @@ class Case(NamedTuple):
     expectations: List[Expectation]
 
 
-def read(path: str, above: Tuple[str, ...] = (), at: Optional[Place] = None, text: Optional[str] = None) -> List[Statement]:
+def read(
+    path: str, above: Tuple[str, ...] = (), at: Optional[Place] = None, text: Optional[str] = None
+) -> List[Statement]:
     """The statements of a file, or of its text as it stands in an editor, and of those that it includes."""
     here = at or Place(path, 1, 1)
     real = os.path.realpath(path)
@@ -101,7 +108,9 @@ def read(path: str, above: Tuple[str, ...] = (), at: Optional[Place] = None, tex
             with open(path, **ANY_BYTES) as file:
                 text = file.read()
     except (OSError, ValueError) as fault:
-        raise Fault(here, f"{path} cannot be read: {getattr(fault, 'strerror', None) or fault}") from fault
+        raise Fault(
+            here, f"{path} cannot be read: {getattr(fault, 'strerror', None) or fault}"
+        ) from fault
     return Blocks(path, (*above, real)).of(lines_of(text))
 
 
@@ -141,7 +150,10 @@ class Blocks:
                 raise Fault(place, "INCLUDE wants the name of a file")
             body = read(os.path.join(os.path.dirname(self.path), name), self.above, place)
         elif first.text not in FORMS and first.text not in ("END", "CASE"):
-            raise Fault(place, f"{first.text} begins no line of a script: {', '.join((*FORMS, 'END', 'CASE'))} do")
+            raise Fault(
+                place,
+                f"{first.text} begins no line of a script: {', '.join((*FORMS, 'END', 'CASE'))} do",
+            )
         return Statement(first.text, place, text, line.tokens, body)
 
 
@@ -150,7 +162,9 @@ class Expansion:
 
     def __init__(self, document: Document, case: Case) -> None:
         self.document, self.case = document, case
-        self.values = {it.name.text: self._value(it.init.text) for it in document.variables() if it.init}
+        self.values = {
+            it.name.text: self._value(it.init.text) for it in document.variables() if it.init
+        }
         self.steps = 0
 
     def _value(self, text: str) -> str:
@@ -216,7 +230,13 @@ class Expansion:
         name, behind = self._monitored(statement), statement.tokens[2:]
         at = next((k for k, it in enumerate(behind) if it.text == "STEP"), len(behind))
         bound = self.document.names[name].step
-        step = self._integer(statement, behind[at + 1 :]) if at < len(behind) else int(bound.text) if bound else 1
+        step = (
+            self._integer(statement, behind[at + 1 :])
+            if at < len(behind)
+            else int(bound.text)
+            if bound
+            else 1
+        )
         goal = self._integer(statement, behind[:at])
         if not is_integer(self.values.get(name, "")):
             raise Fault(statement.place, f"{name} has no numbers")
@@ -248,7 +268,10 @@ class Expansion:
         at = next((k for k, it in enumerate(part) if it.text in COMPARISONS), None)
         if at is None:
             is_negated = bool(part) and part[0].text == "NOT"
-            sides, relation = [part[is_negated:], [Piece("TRUE", 0, 0)]], "!=" if is_negated else "="
+            sides, relation = [
+                part[is_negated:],
+                [Piece("TRUE", 0, 0)],
+            ], "!=" if is_negated else "="
         else:
             sides, relation = [part[:at], part[at + 1 :]], part[at].text
         left, right = (self._operand(statement, it) for it in sides)
@@ -262,7 +285,10 @@ class Expansion:
     def _operand(self, statement: Statement, pieces: List[Piece]) -> str:
         text = self._value("".join(it.text for it in pieces))
         if self._kind(text) is None:
-            raise Fault(statement.place, f"{text or 'EXPECT'} is no variable and no value" if text else "EXPECT wants a = b")
+            raise Fault(
+                statement.place,
+                f"{text or 'EXPECT'} is no variable and no value" if text else "EXPECT wants a = b",
+            )
         return text
 
     def _kind(self, text: str) -> Optional[str]:
@@ -280,8 +306,12 @@ class Expansion:
 
 
 FORMS: Dict[str, Callable[[Expansion, Statement], None]] = {
-    "SET": Expansion._set, "TOGGLE": Expansion._toggle, "RAMP": Expansion._ramp, "REPEAT": Expansion._repeat,
-    "EXPECT": Expansion._expect, "INCLUDE": lambda expansion, statement: expansion.do(statement.body),
+    "SET": Expansion._set,
+    "TOGGLE": Expansion._toggle,
+    "RAMP": Expansion._ramp,
+    "REPEAT": Expansion._repeat,
+    "EXPECT": Expansion._expect,
+    "INCLUDE": lambda expansion, statement: expansion.do(statement.body),
 }
 
 
@@ -297,7 +327,9 @@ def expand(path: str, document: Document, text: Optional[str] = None) -> List[Ca
     groups: List[Tuple[str, Place, List[Statement]]] = []
     for it in flat(read(path, text=text)):
         if it.word == "CASE":
-            groups.append((it.text[len("CASE") :].strip() or f"case {len(groups) + 1}", it.place, []))
+            groups.append(
+                (it.text[len("CASE") :].strip() or f"case {len(groups) + 1}", it.place, [])
+            )
         else:
             (groups[-1][2] if groups else front).append(it)
     name = os.path.splitext(os.path.basename(path))[0]
@@ -327,6 +359,10 @@ def failures(expected: Expectation, state: Dict[str, str]) -> List[str]:
         else:
             holds = (one == other) == (relation == "=")
         if not holds:
-            values = [f"{name} is {state[name]}" for name in dict.fromkeys((left, right)) if name in state]
-            told.append(f"{left} {relation} {right} is not so: {' and '.join(values) or 'it never is'}")
+            values = [
+                f"{name} is {state[name]}" for name in dict.fromkeys((left, right)) if name in state
+            ]
+            told.append(
+                f"{left} {relation} {right} is not so: {' and '.join(values) or 'it never is'}"
+            )
     return told
