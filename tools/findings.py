@@ -17,6 +17,9 @@ from rules import assertion_faults_of, faults_of
 # From the best to the worst, for the status of several runs.
 WORST = (0, 8, 1, 4, 10, 3, 2, 5, 7, 6)
 
+# So many faults of one text are told: who mends these sees the next ones.
+MOST_FAULTS = 100
+
 
 class Place(NamedTuple):
     """A part of a file: columns count characters from 1, and end_column is the one behind it."""
@@ -381,7 +384,7 @@ def look_at(path: str, asked: Set[str], limit: Sequence[str] = ()) -> Report:
     source = text_of(path)
     text = document_of(source)
     if answer.status == program.SPEC_REFUSED:
-        told = [told_of(it, text) for it in faults_of(source)]
+        told = [told_of(it, text) for it in faults_of(source)[:MOST_FAULTS]]
         report.tried.append(("text", ""))
         report.findings += refusal(path, answer.lines[0] if answer.lines else "", told)
         return report
@@ -409,7 +412,7 @@ def with_assert(report: Report, source: str, text: Document, limit: Sequence[str
     if answer.status == program.ASSERT_REFUSED:
         about = document_of(source)
         about.lines = lines
-        told = [told_of(it, about) for it in assertion_faults_of(asserted, source)]
+        told = [told_of(it, about) for it in assertion_faults_of(asserted, source)[:MOST_FAULTS]]
         report.tried.append(("assertions", ""))
         report.findings += refusal(path, answer.lines[0] if answer.lines else "", told)
         return
