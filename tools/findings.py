@@ -14,11 +14,11 @@ from language import Cell, Document, Line, Piece, Row, Table, assertions, docume
 from remedies import Told, told_of
 from rules import assertion_faults_of, faults_of
 
+# Nobody mends more faults of a text at once, and each costs a search for names that are alike.
+MOST_TOLD = 200
+
 # From the best to the worst, for the status of several runs.
 WORST = (0, 8, 1, 4, 10, 3, 2, 5, 7, 6)
-
-# So many faults of one text are told: who mends these sees the next ones.
-MOST_FAULTS = 100
 
 
 class Place(NamedTuple):
@@ -384,7 +384,7 @@ def look_at(path: str, asked: Set[str], limit: Sequence[str] = ()) -> Report:
     source = text_of(path)
     text = document_of(source)
     if answer.status == program.SPEC_REFUSED:
-        told = [told_of(it, text) for it in faults_of(source)[:MOST_FAULTS]]
+        told = [told_of(it, text) for it in faults_of(source)[:MOST_TOLD]]
         report.tried.append(("text", ""))
         report.findings += refusal(path, answer.lines[0] if answer.lines else "", told)
         return report
@@ -412,7 +412,7 @@ def with_assert(report: Report, source: str, text: Document, limit: Sequence[str
     if answer.status == program.ASSERT_REFUSED:
         about = document_of(source)
         about.lines = lines
-        told = [told_of(it, about) for it in assertion_faults_of(asserted, source)[:MOST_FAULTS]]
+        told = [told_of(it, about) for it in assertion_faults_of(asserted, source)[:MOST_TOLD]]
         report.tried.append(("assertions", ""))
         report.findings += refusal(path, answer.lines[0] if answer.lines else "", told)
         return

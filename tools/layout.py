@@ -1,10 +1,11 @@
-"""Lays a specification out: each statement as scr format writes it, on its own line and with its comment.
+"""Lays a specification out: each statement as scr format writes it, on its own line and with its
+comment.
 
-scr format has no place for comments, and gives the lines another order. Here no line is moved, added or taken away: what it
-writes for a statement is put in the place of that statement. So blank lines and comments stay where they are, and a number
-of a line means the same before and after. That the specification is still the same is asked of scr format, which has to
-write the same bytes for both texts.
-"""
+scr format has no place for comments, and gives the lines another order. Here no line is moved,
+added or taken away: what it writes for a statement is put in the place of that statement. So blank
+lines and comments stay where they are, and a number of a line means the same before and after. That
+the specification is still the same is asked of scr format, which has to write the same bytes for
+both texts. """
 from __future__ import annotations
 
 import contextlib
@@ -47,7 +48,7 @@ def formatted(text: str) -> List[str]:
 
 
 def keys_of(lines: List[Line]) -> Dict[int, Key]:
-    """For the number of each line with a statement what tells this statement from all others of its text.
+    """For the number of each line with a statement what tells this statement from all others.
 
     Lines of a mode table with the same source and target have a number at the end, from 0."""
     keys: Dict[int, Key] = {}
@@ -76,8 +77,9 @@ def keys_of(lines: List[Line]) -> Dict[int, Key]:
 def statements(document: Document) -> Dict[int, str]:
     """What scr format writes for the statement of each line, by its number.
 
-    It joins the lines of a mode table that have the same source and target. So these are shown to it one by one: first the
-    text without the second and all further lines of such a pair, then with the second alone, and so on.
+    It joins the lines of a mode table that have the same source and target. So these are shown to
+    it one by one: first the text without the second and all further lines of such a pair, then
+    with the second alone, and so on.
     """
     keys = keys_of(document.lines)
     repeats = {number: key[-1] for number, key in keys.items() if key[0] == "change"}
@@ -138,7 +140,7 @@ def parts_of(statement: str) -> List[str]:
 
 
 def with_comments(document: Document, written: Dict[int, str]) -> List[str]:
-    """The lines with their comments, each where it stood or, where the statement has grown, behind it.
+    """The lines with their comments, each where it stood or, behind a longer statement, further on.
 
     Comments that stood below each other on neighbouring lines still do."""
     columns: Dict[int, int] = {}
@@ -166,7 +168,8 @@ def with_comments(document: Document, written: Dict[int, str]) -> List[str]:
 
 
 def laid_out(text: str, columns: bool = False) -> str:
-    """The text laid out. Where it is refused, or where laid out it would be another specification, it is Refused."""
+    """The text laid out. Where it is refused, or where laid out it would be another
+    specification, it is Refused."""
     before = formatted(text)
     document = document_of(text)
     written = statements(document)

@@ -159,7 +159,8 @@ def suite_cases(report: Report, suite: ElementTree.Element) -> List[ElementTree.
     left = list(report.findings)
     for what, name in report.tried or [("text", "")]:
         mine = [it for it in left if is_about(it, what, name)]
-        left = [it for it in left if it not in mine]
+        taken = set(map(id, mine))
+        left = [it for it in left if id(it) not in taken]
         cases.append(suite_case(report, suite, f"{what} {name}".strip(), mine))
     if left:
         cases.append(suite_case(report, suite, "text", left))

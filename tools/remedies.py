@@ -316,7 +316,7 @@ def nearest(name: str, names: List[str]) -> str:
     for other in names:
         if other.lower() == name.lower():
             return other
-    found = difflib.get_close_matches(name, names[:2000], 1, 0.6)
+    found = difflib.get_close_matches(name, names[:500], 1, 0.6)
     return found[0] if found else ""
 
 

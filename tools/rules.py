@@ -134,7 +134,7 @@ def count_fault(statement: Statement, counts: Dict[str, int]) -> Optional[Fault]
     if what in ("MONITORED", "MODECLASS", "TERM", "CONTROLLED"):
         what = "variable"
     counts[what] = counts.get(what, 0) + 1
-    if counts[what] > MOST_OF.get(what, counts[what]):
+    if counts[what] == MOST_OF.get(what, 0) + 1 and what in MOST_OF:  # told once
         of = "lines of a table" if what in ("ROW", "FROM") else "variables" if what == "variable" else f"{what} lines"
         return Fault(statement.keyword, "limit", "", f"there are more than {MOST_OF[what]} {of}")
     return None
@@ -173,12 +173,18 @@ def place_behind(word: str, place: str) -> str:
     return NEXT.get(word, "transitions" if word == "FROM" else place)
 
 
+def is_past_limit(line: Line, counts: Dict[str, int]) -> bool:
+    """Whether it is a row of a table that is too long already: such a row is not read, whatever it says."""
+    word = line.code.lstrip()[:4].rstrip()
+    return word in ("ROW", "FROM") and counts.get(word, 0) > MOST_OF[word]
+
+
 def read(lines: List[Line]) -> Reading:
     """Reads each line in its place."""
     found = Reading([], [], set(), set())
     place, has_events, counts = "start", False, {}  # type: str, bool, Dict[str, int]
     for line in lines:
-        if place != "after" and found.faults and not line.code.strip():
+        if not line.text or is_past_limit(line, counts):
             continue
         fault = lexical_fault(line)
         if not line.tokens and not fault:
@@ -648,9 +654,9 @@ def declared_lines(statements: List[Statement]) -> Dict[str, int]:
 
 def faults_of(text: str) -> List[Fault]:
     """All faults of a text, in the order in which scr check would come to them."""
-    lines = lines_of(text)
     if len(text) > MOST_BYTES // 4 and size_of(text) > MOST_BYTES:
         return [Fault(Piece("", 0, 1), "limit", "", f"the text has more than {MOST_BYTES:,} bytes")]
+    lines = lines_of(text)
     reading = read(lines)
     rules = Rules(reading)
     broken = [fault for it in reading.statements for fault in rules.go_through(it, lines[it.line - 1])]

@@ -4,15 +4,14 @@ The forms, one on a line, # begins a comment:
 
     SET Variable value             value may be the name of a constant, here and below
     TOGGLE Variable                of a Boolean, as a clock that only ticks
-    RAMP Variable value [STEP n]   goes there by steps of n; without STEP by those of its NAT line, else by 1
+    RAMP Variable value [STEP n]   goes there by steps of n, else of its NAT line, else of 1
     REPEAT n .. END                does the lines between n times
     EXPECT a = b [AND ..]          also != < <= > >=, a Boolean alone, or NOT and a Boolean
     INCLUDE file                   the lines of another file, beside this one
-    CASE words                     begins a run of its own; what stands before the first one begins each of them
+    CASE words                     begins a run; what stands before the first begins each of them
 
-A monitored variable changes by inputs alone, so what RAMP and TOGGLE start from is known without a run. What an input may be
-is told by scr simulate: here it is only expanded.
-"""
+A monitored variable changes by inputs alone, so what RAMP and TOGGLE start from is known without a
+run. What an input may be is told by scr simulate: here it is only expanded. """
 from __future__ import annotations
 
 import operator
@@ -96,7 +95,8 @@ class Case(NamedTuple):
 def read(
     path: str, above: Tuple[str, ...] = (), at: Optional[Place] = None, text: Optional[str] = None
 ) -> List[Statement]:
-    """The statements of a file, or of its text as it stands in an editor, and of those that it includes."""
+    """The statements of a file, or of its text as it stands in an editor, and of those that it
+    includes."""
     here = at or Place(path, 1, 1)
     real = os.path.realpath(path)
     if real in above:
@@ -176,7 +176,8 @@ class Expansion:
         return str(int(digits)) if is_integer(digits) and len(digits) < 20 else text
 
     def do(self, statements: List[Statement]) -> None:
-        """Does statements, and counts them: a few lines of REPEAT may ask for more than anybody waits for."""
+        """Does statements, and counts them: a few lines of REPEAT may ask for more than
+        anybody waits for."""
         for it in statements:
             self._count(it.place)
             if it.word == "INCLUDE":
@@ -342,7 +343,8 @@ def expand(path: str, document: Document, text: Optional[str] = None) -> List[Ca
 
 
 def flat(statements: List[Statement]) -> List[Statement]:
-    """Statements with those of INCLUDE in its place, so that a CASE may stand in a file that is included."""
+    """Statements with those of INCLUDE in its place, so that a CASE may stand in a file that is
+    included."""
     found: List[Statement] = []
     for it in statements:
         found += flat(it.body) if it.word == "INCLUDE" else [it]
@@ -350,7 +352,8 @@ def flat(statements: List[Statement]) -> List[Statement]:
 
 
 def failures(expected: Expectation, state: Dict[str, str]) -> List[str]:
-    """What of an expectation does not hold in a state, told with the values that its variables have there."""
+    """What of an expectation does not hold in a state, told with the values that its variables
+    have there."""
     told = []
     for left, relation, right in expected.comparisons:
         one, other = state.get(left, left), state.get(right, right)
