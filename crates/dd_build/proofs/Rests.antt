@@ -1,5 +1,5 @@
 -- What is left of a sum, at the positions of its first level.
-use Rattle.std.proofs.Common.{◌≡◌, ℕ, suc, ◌+◌, ◌<◌, ◌≤◌, ◌^◌, ℤ, pos, ◌+ℤ◌, ◌*ℤ◌, unsigned_abs, w64, to_z, of_z, Bool, false, List, [], ◌∷◌, ◌++◌, length, get_or, set, drop, refl, sym, ap, ap₂, subst, ◌∙◌, arith, get_or-set_other}
+use Rattle.std.proofs.Common.{◌≡◌, ℕ, suc, ◌+◌, ◌-◌, ◌<◌, ◌≤◌, ◌^◌, ℤ, pos, ◌+ℤ◌, ◌*ℤ◌, unsigned_abs, w64, to_z, of_z, Bool, false, List, [], ◌∷◌, ◌++◌, length, get_or, set, drop, refl, sym, ap, ap₂, subst, ◌∙◌, arith, get_or-set_other}
 use Rattle.std.proofs.lemmas.Int.{ints, to_z-of_z}
 use Rattle.std.proofs.lemmas.List.{length-map, drop_more, drop_all}
 use Rattle.std.proofs.lemmas.List.FromFn.{fill_by_all}
@@ -23,8 +23,11 @@ use Rattle.dd_build.specs.declared.interval.Room.{Room}
 use Rattle.dd_build.specs.Built.{Keeps, IsOver, IsBuilt, IsWithin}
 use Rattle.dd_build.specs.Atoms.{codes_at}
 use Rattle.dd_build.specs.Sums.{AreOrderedTerms, rest_of, rest_at, sum_at, term_of, IsNextSubtotal}
-use Rattle.dd_build.specs.Intervals.{IsSteady, IsInRoom, IsWithinBoth}
-use Rattle.dd_build.proofs.Rooms.{run_is, IsSteadyTo, IsSteadyTo-run}
+use Rattle.dd_build.specs.Intervals.{IsNear, IsSteady, IsRest, IsInRoom, IsWithinBoth}
+use Rattle.dd_build.specs.declared.tail.Tail.{Tail}
+use Rattle.dd_build.specs.declared.tail.Settled.{Settled}
+use Rattle.dd_build.specs.Tails.{IsTail, AreTails, IsSettled, tail_of}
+use Rattle.dd_build.proofs.Rooms.{near_itself, run_is, IsSteadyTo, IsSteadyTo-run}
 use Rattle.dd_build.proofs.FactorLaws.{no_term, fits_small}
 use Rattle.dd_build.proofs.TermLaws.{value-cons}
 use Rattle.dd_build.proofs.Subtotals.{term_there}
@@ -187,3 +190,26 @@ pub IsBuilt-leaf : (held : Held) → IsHeld held → (op : Op) (ts : List Term) 
 IsBuilt-leaf held h op ts from b id past e has =
     IsBuilt-known held held (rest_at held.domains op ts from) id h (Keeps-itself held h) refl
     (record { known = has.known; tree = has.tree ∙ ap leaf e ∙ sym (rest_none held h op ts from (drop_all from.place ts past)) })
+
+-- a leaf is left, whatever is added
+rest_settled : (held : Held) → IsHeld held → (op : Op) (ts : List Term) (from : Subtotal) (tail : Tail) (settled : Settled) → IsTail held.domains (drop from.place ts) tail → IsSettled op tail from.sum settled → (s : ℤ) → IsNear from.sum settled.room s
+    → rest_of held.domains op (drop from.place ts) s ≡ leaf settled.value
+rest_settled held h op ts from tail settled t w s near =
+    tree_of-is (sizes held) h.codes (λ v. meets_zero op (s +ℤ terms_value (codes_at held.domains v) (drop from.place ts))) (leaf settled.value) tt
+    (λ v typed. sym (w.same s (terms_value (codes_at held.domains v) (drop from.place ts)) near (t.adds v typed)))
+
+-- and stays so far
+pub IsRest-settled : (held : Held) → IsHeld held → (op : Op) (ts : List Term) (from : Subtotal) (tail : Tail) (settled : Settled) (id : ℕ) → IsTail held.domains (drop from.place ts) tail → IsSettled op tail from.sum settled → Has held id (leaf settled.value)
+    → IsRest held op ts from (record { id = id; room = settled.room })
+IsRest-settled held h op ts from tail settled id t w has =
+    let here = rest_settled held h op ts from tail settled t w from.sum (near_itself from.sum settled.room) in
+    record {
+      has = record { known = has.known; tree = has.tree ∙ sym here };
+      steady = record { same = λ s near. rest_settled held h op ts from tail settled t w s near ∙ sym here };
+    }
+
+-- the entry of the terms from a place on
+pub IsTail-from : (ds : List Domain) (ts : List Term) (tails : List Tail) (place : ℕ) → AreTails ds ts (length ts) tails → place ≤ length ts → IsTail ds (drop place ts) (tail_of tails (length ts - place))
+IsTail-from ds ts tails place h le =
+    let back : length ts - (length ts - place) ≡ place = omega arith in
+    subst (λ i. IsTail ds (drop i ts) (tail_of tails (length ts - place))) back (h.each (length ts - place) (omega arith))

@@ -26,7 +26,7 @@ below_zero : (z : ℤ) → z ≤ℤ negsuc 0 → meets_zero Eq z ≡ false
 below_zero z h = grind (arith, ints)
 
 -- numbers that are not above 0
-not_above : (z : ℤ) → z ≤ℤ pos 0 → meets_zero Le z ≡ true
+pub not_above : (z : ℤ) → z ≤ℤ pos 0 → meets_zero Le z ≡ true
 not_above z h = grind (arith, ints)
 
 -- a sum above 0
@@ -124,7 +124,7 @@ abbrev none : Room
 none = record { below = 0; above = 0 }
 
 -- a sum is near itself
-near_itself : (a : ℤ) (room : Room) → IsNear a room a
+pub near_itself : (a : ℤ) (room : Room) → IsNear a room a
 near_itself a room = record { low = omega (arith, ints); high = omega (arith, ints) }
 
 -- over a run the sum itself leaves the tree of the next subtotal

@@ -3,14 +3,14 @@
 use sqlite_items::{Boxed, Items};
 
 /// How a sum is compared with 0: it is 0, or it is at most 0.
-#[derive(Clone, Copy, PartialEq, Eq)]
+#[derive(Clone, Copy, PartialEq, Eq, Hash)]
 pub enum Op {
     Eq,
     Le,
 }
 
 /// A factor times the code of a level. Levels are numbered from 0.
-#[derive(Clone, Copy, PartialEq, Eq)]
+#[derive(Clone, Copy, PartialEq, Eq, Hash)]
 pub struct Term {
     pub factor: i64,
     pub level: usize,

@@ -6,6 +6,8 @@ pub mod OneKey
 pub mod KeyLemmas
 pub mod RunLemmas
 pub mod Recalled
+pub mod ResultLemmas
+pub mod AtomLemmas
 pub mod NewStore
 pub mod Made
 pub mod Faults

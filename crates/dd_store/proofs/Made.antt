@@ -16,6 +16,9 @@ use Rattle.dd_store.specs.Split.{IsSplit, join_of, HasNoRoom}
 use Rattle.dd_store.specs.Keys.{Puts}
 use Rattle.dd_tree.proofs.Added.{add_tree-new}
 use Rattle.dd_store.proofs.Canonical.{few_trees}
+use Rattle.dd_store.specs.declared.atoms.AtomKey.{AtomKey}
+use Rattle.dd_store.specs.Atoms.{IsAtomOf}
+use Rattle.dd_store.proofs.AtomLemmas.{IsAtomOf-kept}
 use Rattle.dd_store.proofs.Recalled.{IsResult-kept}
 use Rattle.dd_store.proofs.Trees.{at_false, at_true, at-trees_from, length-trees, trees_from-push, AreNodes-push}
 use Rattle.dd_store.proofs.Distinct.{AreDistinct-trees, found_nowhere, found_at, same_numbers, all_equal, all_same-numbers}
@@ -68,6 +71,8 @@ pub record Makes (old : Held) (t : Tree) (new : Held) (id : ℕ) : Type 0 where
   pub has : Has new id t
   pub trees_are : trees new ≡ add_tree (trees old) t
   pub same_limit : new.limit ≡ old.limit
+  pub results_stay : (k : MemoKey) (r : ℕ) → IsResult old k r → IsResult new k r
+  pub atoms_stay : (k : AtomKey) (r : ℕ) → IsAtomOf old k r → IsAtomOf new k r
 
 -- then there was room for it
 pub had_room : (old : Held) (t : Tree) (new : Held) (id : ℕ) → Makes old t new id → HasNoRoom old t → ⊥
@@ -138,6 +143,8 @@ module _ (held : Held) (h : IsHeld held) (level : ℕ) (cs : List ℕ) (s : IsSp
       let tree : at (trees held) (i + 2) ≡ join_of held level cs = known.tree ∙ sym is_split in
       record {
         held_still = h;
+        results_stay = λ k r one. one;
+        atoms_stay = λ k r one. one;
         has = record { known = inside; tree = tree };
         trees_are = sym (ap (λ b. cond b (trees held) (trees held ++ join_of held level cs ∷ []))
             (ap (λ t. list_any (tree_eq t) (trees held)) (sym tree) ∙ found_at (trees held) (i + 2) inside));
@@ -149,12 +156,23 @@ module _ (held : Held) (h : IsHeld held) (level : ℕ) (cs : List ℕ) (s : IsSp
   unfolding trees
   more_trees = trees_from-push leaves held.nodes (node level cs)
 
-  -- the memo's answers stay right
-  right : (e : MemoKey × ℕ) → Contains held.entries e → IsResult (with_nodes held (held.nodes ++ node level cs ∷ [])) e.0 e.1
-  right e c =
+  -- a result stays one
+  still : (k : MemoKey) (r : ℕ) → IsResult held k r → IsResult (with_nodes held (held.nodes ++ node level cs ∷ [])) k r
+  still k r one =
       let new = with_nodes held (held.nodes ++ node level cs ∷ []) in
       IsResult-kept held new refl (omega (arith, ap length more_trees, length_push (trees held) (tree_in (trees held) (node level cs))))
-      (λ j lt. ap (λ us. at us j) more_trees ∙ get_or_append_left (trees held) _ (leaf false) j lt) e.0 e.1 (h.right e c)
+      (λ j lt. ap (λ us. at us j) more_trees ∙ get_or_append_left (trees held) _ (leaf false) j lt) k r one
+
+  -- and so do the trees of atoms
+  atoms_still : (k : AtomKey) (r : ℕ) → IsAtomOf held k r → IsAtomOf (with_nodes held (held.nodes ++ node level cs ∷ [])) k r
+  atoms_still k r one =
+      let new = with_nodes held (held.nodes ++ node level cs ∷ []) in
+      IsAtomOf-kept held new refl (omega (arith, ap length more_trees, length_push (trees held) (tree_in (trees held) (node level cs))))
+      (λ j lt. ap (λ us. at us j) more_trees ∙ get_or_append_left (trees held) _ (leaf false) j lt) k r one
+
+  -- so the memo's answers stay right
+  right : (e : MemoKey × ℕ) → Contains held.entries e → IsResult (with_nodes held (held.nodes ++ node level cs ∷ [])) e.0 e.1
+  right e c = still e.0 e.1 (h.right e c)
 
   -- the store with the node
   grown : (absent : Contains held.nodes (node level cs) → ⊥) → length held.nodes < held.limit → IsHeld (with_nodes held (held.nodes ++ node level cs ∷ []))
@@ -181,6 +199,8 @@ module _ (held : Held) (h : IsHeld held) (level : ℕ) (cs : List ℕ) (s : IsSp
       same_children (trees held) (trees new) cs (λ j lt. ap (λ us. at us j) more_trees ∙ get_or_append_left (trees held) _ (leaf false) j lt) s.below in
       record {
         held_still = h';
+        results_stay = still;
+        atoms_stay = atoms_still;
         has = record { known = omega (arith, length-trees new); tree = known.tree ∙ ap (λ xs. split level (branches xs)) children ∙ sym is_split };
         trees_are = more_trees ∙ sym (ap (λ t. add_tree (trees held) t) is_split
             ∙ ap (λ b. cond b (trees held) (trees held ++ tree_in (trees held) (node level cs) ∷ [])) (fresh absent));
@@ -223,6 +243,8 @@ one_here held h level (x ∷ xs) s all id e =
     let inside : id < length (trees held) = subst (λ k. k < length (trees held)) (sym e) s.below.0 in
     record {
       held_still = h;
+      results_stay = λ k r one. one;
+      atoms_stay = λ k r one. one;
       same_limit = refl;
       has = record { known = inside; tree = tree };
       trees_are = sym (ap (λ b. cond b (trees held) (trees held ++ join_of held level (x ∷ xs) ∷ []))

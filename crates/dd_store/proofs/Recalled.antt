@@ -58,7 +58,7 @@ unfolding trees
 IsSameButMemo-with_entries held es = record { domains = refl; limit = refl; trees = refl }
 
 -- a result stays one beside other entries
-IsResult-with_entries : (held : Held) (es : List (MemoKey × ℕ)) (k : MemoKey) (r : ℕ) → IsResult held k r → IsResult (with_entries held es) k r
+pub IsResult-with_entries : (held : Held) (es : List (MemoKey × ℕ)) (k : MemoKey) (r : ℕ) → IsResult held k r → IsResult (with_entries held es) k r
 unfolding trees
 IsResult-with_entries held es k r h = record { left = h.left; right = h.right; same = h.same; has = record { known = h.has.known; tree = h.has.tree } }
 

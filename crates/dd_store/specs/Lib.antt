@@ -2,6 +2,8 @@ pub mod Domains
 pub mod Runs
 pub mod Held
 pub mod Memo
+pub mod Results
+pub mod Atoms
 pub mod Kept
 pub mod Split
 pub mod Keys

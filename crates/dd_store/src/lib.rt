@@ -6,12 +6,15 @@
 
 ghost use Rattle.dd_store.specs.Kept.{OneIdPerTree};
 
+mod atoms;
 mod id;
 mod law;
 mod memo;
 mod node;
+mod results;
 mod store;
 
+pub use atoms::AtomKey;
 pub use id::Id;
 pub use law::limit_of_splits;
 pub use memo::{Join, MemoKey};

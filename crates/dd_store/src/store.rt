@@ -10,15 +10,18 @@ ghost use Rattle.dd_store.specs.Domains.{IsDomain, code_at};
 ghost use Rattle.dd_store.specs.Runs.{children_of, RiseFrom};
 ghost use Rattle.dd_store.specs.Held.{Held, sizes, leaves, trees, IsKnown, Has, IsSameButMemo};
 ghost use Rattle.dd_store.specs.Memo.{IsResult, key_eq, key_of, noted};
+ghost use Rattle.dd_store.specs.Atoms.{IsAtomOf};
 ghost use Rattle.dd_store.specs.Kept.{IsHeld};
 ghost use Rattle.dd_store.specs.Split.{IsSplit, split_of, HasNoRoom, Shows};
 
+use crate::atoms::{AtomKey, find_atom, keep_atom};
 use crate::id::Id;
 use crate::memo::{Join, MemoKey};
 use crate::node::{NodeKey, Stretch, View, join_runs, put};
+use crate::results::{find, keep};
 use base::NoMemory;
 use dd_formula::Domain;
-use indexmap::IndexSet;
+use indexmap::{IndexMap, IndexSet};
 use lru::LruCache;
 use std::alloc::{AllocFailed, Global};
 use std::marker::Model;
@@ -70,6 +73,13 @@ pub struct Store {
     limit: u32,
     nodes: IndexSet<NodeKey>,
     memo: LruCache<MemoKey, Id>,
+
+    // Results of operations that contracts do not see. An operation on two trees is worked out once
+    // while there is room for its result here, however many others come between.
+    results: IndexMap<MemoKey, Id>,
+
+    // Trees of atoms that contracts do not see.
+    atoms: IndexMap<AtomKey, Id>,
 }
 
 impl Model for Store {
@@ -104,6 +114,8 @@ impl Store {
             limit,
             nodes: IndexSet::new(alloc),
             memo,
+            results: IndexMap::new(alloc),
+            atoms: IndexMap::new(alloc),
         })
     }
 
@@ -215,6 +227,38 @@ impl Store {
         })
     }
 
+    /// The tree of an atom that was noted before, if it is still kept.
+    pub fn atom(&self, key: &AtomKey) -> Option<Id>
+        ensures right { IfSome result (IsAtomOf self.now key.now) }
+        ensures held { IsHeld self.now }
+    {
+        find_atom(&self.atoms, key)
+    }
+
+    /// Keeps the tree of an atom, where there is room and memory for it.
+    pub fn note_atom(&mut self, key: AtomKey, answer: Id)
+        requires { IsAtomOf self.old key answer }
+        ensures same { self.new ≡ self.old }
+        ensures held { IsHeld self.new }
+    {
+        keep_atom(&mut self.atoms, key, answer);
+    }
+
+    /// The result of an operation that was noted before, if it is still kept beside the memo.
+    pub fn result(&self, join: Join, f: Id, g: Id) -> Option<Id>
+        ensures right { IfSome result (IsResult self.now (key_of join f g)) }
+        ensures held { IsHeld self.now }
+    {
+        find(
+            &self.results,
+            MemoKey {
+                join,
+                left: f,
+                right: g,
+            },
+        )
+    }
+
     /// The answer that the memo has for an operation. Its entry is then the last used.
     pub fn recall(&mut self, join: Join, f: Id, g: Id) -> Option<Id>
         ensures found { result ≡ lookup (key_eq (key_of join f g)) self.old.entries }
@@ -245,6 +289,7 @@ impl Store {
             left: f,
             right: g,
         };
+        keep(&mut self.results, &key, answer);
         self.memo.put(key, answer)?;
         Ok(())
     }

@@ -1,14 +1,20 @@
-use Rattle.std.proofs.Common.{◌+◌, ◌<◌, Err, sym, ap, subst, length, ◌∙◌, arith}
+use Rattle.std.proofs.Common.{ℕ, ◌+◌, ◌<◌, Err, sym, ap, subst, length, ◌∙◌, arith}
 use Rattle.std.proofs.lemmas.List.{length-map}
 use Rattle.dd_store.specs.declared.store.StoreFault.TheVariants.{Full}
 use Rattle.dd_store.specs.declared.node.Stretch.{Stretch}
 use Rattle.dd_store.specs.Runs.{children_of, AreJoinedFrom}
+use Rattle.dd_store.specs.declared.memo.MemoKey.{MemoKey}
 use Rattle.dd_store.specs.Held.{Has}
+use Rattle.dd_store.specs.Memo.{IsResult}
 use Rattle.dd_store.specs.Split.{join_of}
 use Rattle.dd_store.specs.Keys.{node_of, nodes_of}
 use Rattle.dd_store.specs.Inner.{held_by}
 use Rattle.dd_store.proofs.RunLemmas.{IsOneRun, one_run_of, mixed_runs}
 use Rattle.dd_store.proofs.Made.{Makes, had_room, made_for, full_for, one_for, with_nodes}
+use Rattle.dd_store.specs.declared.atoms.AtomKey.{AtomKey}
+use Rattle.dd_store.specs.Atoms.{IsAtomOf}
+use Rattle.dd_store.proofs.AtomLemmas.{AreAtoms-kept}
+use Rattle.dd_store.proofs.ResultLemmas.{AreResults-kept}
 use Rattle.dd_store.proofs.Canonical.{few_trees}
 use Rattle.dd_store.proofs.Faults.{same_fault}
 use Rattle.dd_store.proofs.store.Store.mk.Goals as goal
@@ -66,6 +72,14 @@ invariant_of-self-2 c = record {
   held = (made c).held_still;
   joined = c.in_ok-place.ensures.joined;
   cap = c.self.invariant.cap;
+  results =
+      AreResults-kept (held_by c.self.inside) (with_nodes (held_by c.self.inside) (nodes_of c.put.new.nodes.keys))
+      (subst (λ h. (k : MemoKey) (r : ℕ) → IsResult h k r → IsResult (with_nodes (held_by c.self.inside) (nodes_of c.put.new.nodes.keys)) k r) (sym c.self.view_is) (made c).results_stay)
+      c.self.inside.results.entries c.self.invariant.results;
+  atoms =
+      AreAtoms-kept (held_by c.self.inside) (with_nodes (held_by c.self.inside) (nodes_of c.put.new.nodes.keys))
+      (subst (λ h. (k : AtomKey) (r : ℕ) → IsAtomOf h k r → IsAtomOf (with_nodes (held_by c.self.inside) (nodes_of c.put.new.nodes.keys)) k r) (sym c.self.view_is) (made c).atoms_stay)
+      c.self.inside.atoms.entries c.self.invariant.atoms;
 }
 
 pub returns-clause-tree : goal.returns-clause-tree

@@ -6,6 +6,8 @@ use Rattle.dd_store.specs.Memo.{IsResult, key_eq, key_of}
 use Rattle.dd_store.specs.Kept.{IsHeld}
 use Rattle.dd_store.specs.Inner.{held_by}
 use Rattle.dd_store.proofs.Recalled.{with_entries, IsHeld-noted, IsSameButMemo-with_entries}
+use Rattle.dd_store.proofs.ResultLemmas.{AreResults-with_entries}
+use Rattle.dd_store.proofs.AtomLemmas.{AreAtoms-with_entries}
 use Rattle.dd_store.proofs.store.Store.note.Goals as goal
 
 -- the store with the entry keeps what every store keeps
@@ -20,6 +22,11 @@ invariant_of-self-2 c = record {
   held = still_held c;
   joined = c.self.invariant.joined;
   cap = ap (λ m. m.cap) c.in_ok-put.ensures.entries ∙ c.self.invariant.cap;
+  results =
+      AreResults-with_entries (held_by c.self.inside) c.put.new.self.entries c.keep.new.results.entries
+      (c.keep.ensures.are (held_by c.self.inside) c.self.invariant.results
+      (subst (λ h. IsResult h (key_of c.args.join c.args.f c.args.g) c.args.answer) (sym c.self.view_is) c.requires));
+  atoms = AreAtoms-with_entries (held_by c.self.inside) c.put.new.self.entries c.self.inside.atoms.entries c.self.invariant.atoms;
 }
 
 pub returns-clause-memo : goal.returns-clause-memo

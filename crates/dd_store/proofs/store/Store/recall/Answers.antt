@@ -4,6 +4,8 @@ use Rattle.dd_store.specs.Memo.{key_of}
 use Rattle.dd_store.specs.Kept.{IsHeld}
 use Rattle.dd_store.specs.Inner.{held_by}
 use Rattle.dd_store.proofs.Recalled.{with_entries, IsHeld-promoted, IsResult-found, IsSameButMemo-with_entries}
+use Rattle.dd_store.proofs.ResultLemmas.{AreResults-with_entries}
+use Rattle.dd_store.proofs.AtomLemmas.{AreAtoms-with_entries}
 use Rattle.dd_store.proofs.store.Store.recall.Goals as goal
 
 -- the store with the entry in front keeps what every store keeps
@@ -17,6 +19,8 @@ invariant_of-self c = record {
   held = still_held c;
   joined = c.self.invariant.joined;
   cap = ap (λ m. m.cap) c.get.follows.holds-at-none ∙ c.self.invariant.cap;
+  results = AreResults-with_entries (held_by c.self.inside) c.get.follows.lender-at-none.entries c.self.inside.results.entries c.self.invariant.results;
+  atoms = AreAtoms-with_entries (held_by c.self.inside) c.get.follows.lender-at-none.entries c.self.inside.atoms.entries c.self.invariant.atoms;
 }
 
 pub returns-clause-right : goal.returns-clause-right
