@@ -5,6 +5,7 @@ folder, through links to the folder as they stand; else scr on the path.
 
 - find() gives its path, and ends the tool with status 125 and one line where there is none.
 - run(WORD, ..) gives an Answer: status, lines of standard output, and what stands on standard error.
+- version() gives the version that the launcher tells, or else that of the tools.
 - the statuses have names: DONE, FINDINGS, .., UNDECIDED, as in docs/COMMANDS.md.
 """
 from __future__ import annotations
@@ -90,3 +91,16 @@ def run(*words: str, seconds: Optional[float] = None) -> Answer:
     if done.returncode == NOT_BUILT:
         stop(error[0] or "the program could not be built", NOT_BUILT)
     return Answer(done.returncode, [it for it in lines if it], [it for it in error if it])
+
+
+def version() -> str:
+    """The version of scr. The programs behind the launcher do not know theirs, and are taken to be of the tools' own."""
+    told = run("--version")
+    words = told.lines[0].split() if told.status == DONE and told.lines else []
+    if len(words) > 1 and words[0] == "scr":
+        return words[1].rstrip(",")
+    try:
+        with open(os.path.join(os.path.dirname(os.path.dirname(os.path.abspath(__file__))), "VERSION"), encoding="ascii") as file:
+            return file.read().strip()
+    except (OSError, ValueError):
+        return "unknown"
