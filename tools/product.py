@@ -206,9 +206,9 @@ def header(product: Product) -> str:
     if product.emitted.inputs:
         lines += [
             "/* The inputs. The result says whether the value is taken: it is where it is one that",
-            "   the variable may have, and no further from the present one than its bound. Then one",
-            "   step of the specification is made, or none where the value is the present one. A",
-            "   value that is not taken changes nothing. */",
+            "   the variable may have, and no further from the present one than its bound. Then",
+            "   one step of the specification is made, or none where the value is the present one.",
+            "   A value that is not taken changes nothing. */",
         ]
         for name in product.emitted.inputs:
             line = product.document.names[name].line
@@ -265,9 +265,10 @@ def before_bytes(product: Product) -> List[str]:
         product,
         f"{product.prefix}.c",
         [
-            "The bytes between the two marks are those that scr emit writes, unchanged. It is proved",
-            "of them that they run as the specification does, for every list of inputs that may come.",
-            "What stands around them lets no other input through, and is tested, not proved.",
+            "The bytes between the two marks are those that scr emit writes, unchanged. It is",
+            "proved of them that they run as the specification does, for every list of inputs that",
+            "may come. What stands around them lets no other input through, and is tested, not",
+            "proved.",
             "The table at the end leads from each `if` to its cell.",
         ],
     )

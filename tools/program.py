@@ -94,13 +94,14 @@ def run(*words: str, seconds: Optional[float] = None) -> Answer:
 
 
 def version() -> str:
-    """The version of scr. The programs behind the launcher do not know theirs, and are taken to be of the tools' own."""
+    """The version of scr. A program without the launcher does not know its own, and has that of the tools."""
     told = run("--version")
     words = told.lines[0].split() if told.status == DONE and told.lines else []
     if len(words) > 1 and words[0] == "scr":
         return words[1].rstrip(",")
+    top = os.path.dirname(os.path.dirname(os.path.abspath(__file__)))
     try:
-        with open(os.path.join(os.path.dirname(os.path.dirname(os.path.abspath(__file__))), "VERSION"), encoding="ascii") as file:
+        with open(os.path.join(top, "VERSION"), encoding="ascii") as file:
             return file.read().strip()
     except (OSError, ValueError):
         return "unknown"
