@@ -7,8 +7,8 @@ ghost use Rattle.scr_spec.specs.Relations.{is_monitored};
 ghost use Rattle.scr_depend.specs.Related.{bound_of};
 ghost use Rattle.run_reach.specs.Inputs as listed;
 
-use scr_spec::{Input, Spec, State};
 use base::NoMemory;
+use scr_spec::{Input, Spec, State};
 use sqlite_items::Items;
 use std::alloc::Global;
 
@@ -126,7 +126,7 @@ fn push_at(inputs: &mut Items<Input>, spec: &Spec, at: &State, v: usize) -> Resu
 
 /// The inputs that may come in a state: the monitored variables in order of declaration, and for each its
 /// values, ascending.
-pub fn inputs_of(alloc: Global, spec: &Spec, at: &State) -> Result<Items<Input>, NoMemory>
+pub(crate) fn inputs_of(alloc: Global, spec: &Spec, at: &State) -> Result<Items<Input>, NoMemory>
     requires { IsTyped (data_of spec.now) at.now.codes }
     ensures { IfOk result (λ inputs. inputs ≡ listed.inputs_of (data_of spec.now) at.now.codes) }
 {

@@ -1,6 +1,9 @@
-//! Breadth-first search over all runs of a specification that passed its checks.
+//! Breadth-first search over all runs of a specification that passed its checks: the least script that
+//! meets what is sought.
 #![tactic(auto)]
 
+mod answer;
+mod between;
 mod inputs;
 mod law;
 mod paths;
@@ -8,13 +11,8 @@ mod search;
 mod target;
 mod tree;
 mod turn;
-mod whole;
 
-pub use inputs::inputs_of;
-pub use law::{reached_are_stored, stored_are_reached, targets_are_found};
-pub use paths::path;
-pub use search::Search;
-pub use target::{CellHolds, CondHolds, Nothing, Target};
-pub use tree::{Link, Tree};
-pub use turn::Turn;
-pub use whole::{End, explore, seek};
+pub use answer::Answer;
+pub use law::{one_answer, one_order};
+pub use search::seek;
+pub use target::{CellHolds, IsBroken, Target};

@@ -1,5 +1,5 @@
-//! What is searched for.
-ghost use Rattle.std.specs.Prelude.{◌≡◌, Bool, false, IsTrue};
+//! What is sought.
+ghost use Rattle.std.specs.Prelude.{◌≡◌, ◌&&◌, Bool, true, false, not, IsTrue};
 ghost use Rattle.scr_spec.specs.Data.{Data};
 ghost use Rattle.scr_spec.specs.Shown.{data_of};
 ghost use Rattle.scr_spec.specs.Meaning.{Codes, is_true};
@@ -8,41 +8,38 @@ ghost use Rattle.scr_spec.specs.Domains.{IsTyped};
 ghost use Rattle.scr_spec.specs.Cells.{holds_in, has_cell, is_table_over};
 ghost use Rattle.run_cover.specs.Cells.{held};
 ghost use Rattle.run_cover.specs.Counts.{cell_at};
+ghost use Rattle.prove_formula.specs.Between.{is_true_between};
+ghost use Rattle.run_reach.specs.Answers.{Sought};
+ghost use Rattle.run_reach.specs.Targets.{held_at, broken_by};
 
+use crate::between::cond_holds_between;
 use scr_eval::{cell_holds, cond_holds};
 use scr_spec::{Cond, Spec, State, Table};
 
-/// A property of steps, asked at the state before and the state after an input.
+/// What is sought in the runs of a specification: an initial state, or a step from an old to a new state.
 pub trait Target {
-    /// It can be asked at states of the specification.
+    /// It can be sought in runs of the specification.
     ghost fits: { Self → Data → Type 0 };
 
-    /// The step from the first state to the second has the property.
-    ghost hit: { Self → Data → Codes → Codes → Bool };
+    /// What is sought.
+    ghost sought: { Self → Data → Sought };
 
-    /// Whether the step has the property.
-    fn is_hit(&self, spec: &Spec, old: &State, new: &State) -> bool
+    /// Whether this initial state is sought.
+    fn is_met_at_first(&self, spec: &Spec, first: &State) -> bool
+        requires fits { fits self.now (data_of spec.now) }
+        requires typed { IsTyped (data_of spec.now) first.now.codes }
+        ensures { result ≡ (sought self.now (data_of spec.now)).at_first first.now.codes };
+
+    /// Whether this step is sought.
+    fn is_met(&self, spec: &Spec, old: &State, new: &State) -> bool
         requires fits { fits self.now (data_of spec.now) }
         requires old_typed { IsTyped (data_of spec.now) old.now.codes }
         requires new_typed { IsTyped (data_of spec.now) new.now.codes }
-        ensures { result ≡ hit self.now (data_of spec.now) old.now.codes new.now.codes };
+        ensures { result ≡ (sought self.now (data_of spec.now)).at_step old.now.codes new.now.codes };
 }
 
-/// No step: the search goes through all states.
-#[derive(Clone, Copy)]
-pub struct Nothing;
-
-impl Target for Nothing {
-    ghost fits = { λ _ _. Unit {0} };
-
-    ghost hit = { λ _ _ _ _. false };
-
-    fn is_hit(&self, _spec: &Spec, _old: &State, _new: &State) -> bool {
-        false
-    }
-}
-
-/// The steps at which a cell holds. The three numbers count from 0. No step where there is no such cell.
+/// A cell, at which it is sought that it holds. The three numbers count from 0. No step is sought where
+/// there is no such cell.
 #[derive(Clone, Copy)]
 pub struct CellHolds {
     pub table: usize,
@@ -88,25 +85,39 @@ fn is_held(spec: &Spec, cell: CellHolds, old: &State, new: &State) -> bool
 impl Target for CellHolds {
     ghost fits = { λ _ _. Unit {0} };
 
-    ghost hit = { λ cell spec old new. held spec (cell_at cell.table cell.row cell.column) old new };
+    ghost sought = { λ cell spec. held_at spec (cell_at cell.table cell.row cell.column) };
 
-    fn is_hit(&self, spec: &Spec, old: &State, new: &State) -> bool {
+    fn is_met_at_first(&self, _spec: &Spec, _first: &State) -> bool {
+        false
+    }
+
+    fn is_met(&self, spec: &Spec, old: &State, new: &State) -> bool {
         is_held(spec, *self, old, new)
     }
 }
 
-/// The steps after which a condition is true. The first state is after no step.
+/// An assertion, of which it is sought that it is broken. One of two states reads primed names in the
+/// new state.
 #[derive(Clone, Copy)]
-pub struct CondHolds<'a> {
+pub struct IsBroken<'a> {
     pub cond: &'a Cond,
+    pub two: bool,
 }
 
-impl Target for CondHolds<'_> {
-    ghost fits = { λ target spec. IsTrue (is_cond_over spec target.cond.now) };
+impl Target for IsBroken<'_> {
+    ghost fits = { λ it spec. IsTrue (is_cond_over spec it.cond.now) };
 
-    ghost hit = { λ target spec _ new. is_true spec new target.cond.now };
+    ghost sought = { λ it spec. broken_by spec it.two it.cond.now };
 
-    fn is_hit(&self, spec: &Spec, _old: &State, new: &State) -> bool {
-        cond_holds(spec, self.cond, new)
+    fn is_met_at_first(&self, spec: &Spec, first: &State) -> bool {
+        !self.two && !cond_holds(spec, self.cond, first)
+    }
+
+    fn is_met(&self, spec: &Spec, old: &State, new: &State) -> bool {
+        if self.two {
+            !cond_holds_between(spec, self.cond, old, new)
+        } else {
+            !cond_holds(spec, self.cond, new)
+        }
     }
 }

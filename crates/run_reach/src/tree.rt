@@ -2,9 +2,9 @@
 ghost use Rattle.std.specs.Prelude.{◌≡◌, ◌<◌, ◌^◌, ◌++◌, ◌∷◌, [], length, false, OnOk, OnErr, IfOk};
 ghost use Rattle.run_reach.specs.Trees.{codes_at, link_at, no_link, has_codes};
 
+use base::NoMemory;
 use indexmap::IndexMap;
 use scr_spec::{Input, State};
-use base::NoMemory;
 use sqlite_items::Items;
 use std::alloc::Global;
 use std::marker::Model;
@@ -12,7 +12,7 @@ use std::marker::Model;
 /// What led to a state: the number of the state before it, the input, and how many inputs there are from
 /// the first state on.
 #[derive(Clone, Copy)]
-pub struct Link {
+pub(crate) struct Link {
     pub parent: usize,
     pub input: Input,
     pub depth: usize,
@@ -36,7 +36,7 @@ pub(crate) fn no_link() -> Link
 /// States in the order in which they were reached, each once, with what led there. Contracts see a list
 /// of their codes and links.
 #[derive(Drop)]
-pub struct Tree {
+pub(crate) struct Tree {
     map: IndexMap<Vec<i64>, Link>,
 }
 

@@ -3,25 +3,25 @@ ghost use Rattle.std.specs.Prelude.{◌≡◌, ◌<◌, ◌≤◌, ◌^◌, leng
 ghost use Rattle.scr_spec.specs.Shown.{data_of};
 ghost use Rattle.run_step.specs.Runs.{IsConsistent};
 ghost use Rattle.run_reach.specs.Trees.{codes_at, depth_at};
-ghost use Rattle.run_reach.specs.Growth.{Puts, IsBegun, Turns};
+ghost use Rattle.run_reach.specs.Growth.{Puts, Turns};
 
 use crate::inputs::inputs_of;
 use crate::target::Target;
 use crate::tree::{Link, Tree};
-use scr_depend::Checked;
-use run_step::step_into;
-use scr_spec::{Input, State};
 use base::NoMemory;
+use run_step::step_into;
+use scr_depend::Checked;
+use scr_spec::{Input, State};
 use std::alloc::Global;
 
 /// What came of expanding a state.
-#[derive(Clone, Copy, PartialEq, Eq)]
-pub enum Turn {
+#[derive(Clone, Copy)]
+pub(crate) enum Turn {
     /// All its inputs were tried.
     Expanded,
     /// There is no room for a state that an input leads to.
     Full,
-    /// The step that this input makes is a target, and none before it is.
+    /// The step of this input is sought, and none before it is.
     Hit(Input),
 }
 
@@ -74,9 +74,8 @@ pub(crate) fn expand<T: Target>(
     requires shallow { depth_at tree.old number ≤ number }
     requires few { length tree.old ≤ most }
     requires consistent { IsConsistent (data_of checked.now.spec) (codes_at tree.old number) }
-    ensures begun { IsBegun (data_of checked.now.spec) number (codes_at tree.old number) tree.old tree.new }
     ensures few { length tree.new ≤ most }
-    ensures turn { IfOk result (Turns (data_of checked.now.spec) (T.hit target.now (data_of checked.now.spec)) most number
+    ensures turn { IfOk result (Turns (data_of checked.now.spec) (T.sought target.now (data_of checked.now.spec)).at_step most number
         (codes_at tree.old number) tree.old tree.new) }
 {
     let old = tree.state(alloc, number)?;
@@ -85,7 +84,7 @@ pub(crate) fn expand<T: Target>(
     let mut new = tree.state(alloc, number)?;
     for input in inputs {
         step_into(checked, &old, *input, &mut new);
-        if target.is_hit(checked.spec(), &old, &new) {
+        if target.is_met(checked.spec(), &old, &new) {
             return Ok(Turn::Hit(*input));
         }
         if !put_child(alloc, tree, most, number, *input, &new)? {
