@@ -7,7 +7,6 @@ use Rattle.run_reach.specs.declared.answer.Answer.{Answer}
 use Rattle.run_reach.specs.declared.answer.Answer.TheVariants.{Never, Open, Least}
 use Rattle.run_reach.specs.Scripts.{ComesBefore, IsNextWay, IsWayTo}
 use Rattle.run_reach.specs.Answers.{Sought, Meets, IsLeast, IsOpenAt, HasRoomUpTo, IsAnswer}
-use Rattle.run_reach.specs.Laws.{OneAnswer}
 use Rattle.run_reach.proofs.Order.{NotAfter, before_itself, before_on, before_total, not_after_then}
 
 module _ (spec : Data) where
@@ -71,7 +70,7 @@ module _ (spec : Data) where
     open_least : (most : ℕ) (o script : List Input) → IsOpenAt spec sought most o → IsLeast spec sought script → HasRoomUpTo spec most script → ⊥
     open_least most o script h l room = room o h.way (open_before most o script h l.meets)
 
-    one : (most : ℕ) (a b : Answer) → IsAnswer spec sought most a → IsAnswer spec sought most b → a ≡ b
+    pub one : (most : ℕ) (a b : Answer) → IsAnswer spec sought most a → IsAnswer spec sought most b → a ≡ b
     one most Never Never h g = refl
     one most Never (Open e) h g = absurd (h.1 g.0 g.1.way)
     one most Never (Least t) h g = absurd (h.0 t g.0.meets)
@@ -86,23 +85,15 @@ module _ (spec : Data) where
     one most (Least s) (Open e) h g = absurd (open_least most g.0 s g.1 h.0 h.1)
     one most (Least s) (Least t) h g = ap (λ (r : List Input). Least r) (least_one s t h.0 g.0)
 
-    no_fewer : (most depth : ℕ) (script : List Input) → IsAnswer spec sought most (Open depth) → Meets spec sought script → depth < length script
+    pub no_fewer : (most depth : ℕ) (script : List Input) → IsAnswer spec sought most (Open depth) → Meets spec sought script → depth < length script
     no_fewer most depth script h m =
         elim (open_before most h.0 script h.1 m) [
           | inl less ↦ omega (arith, less, h.2)
           | inr same ↦ omega (arith, same.0, h.2)
         ]
 
-    never_on : (most more : ℕ) → most ≤ more → IsAnswer spec sought most Never → IsAnswer spec sought more Never
+    pub never_on : (most more : ℕ) → most ≤ more → IsAnswer spec sought most Never → IsAnswer spec sought more Never
     never_on most more le h = (h.0, λ way w. let r = way_front most more way le w in h.1 r.0 r.1)
 
-    least_on : (most more : ℕ) (script : List Input) → most ≤ more → IsAnswer spec sought most (Least script) → IsAnswer spec sought more (Least script)
+    pub least_on : (most more : ℕ) (script : List Input) → most ≤ more → IsAnswer spec sought most (Least script) → IsAnswer spec sought more (Least script)
     least_on most more script le h = (h.0, λ way w before. let r = way_front most more way le w in h.1 r.0 r.1 (not_after_then r.0 way script r.2 before))
-
-pub one_answer : OneAnswer
-one_answer = record {
-  one = one;
-  no_fewer = no_fewer;
-  never = never_on;
-  least = least_on;
-}

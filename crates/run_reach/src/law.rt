@@ -6,7 +6,7 @@ pub fn one_order()
     ensures { OneOrder }
 {}
 
-/// A search has one answer. Where it is open, what is sought needs more inputs; where it is not, more
+/// A search has one answer, and never none. Where it is open, what is sought needs more inputs; where it is not, more
 /// room makes no difference.
 pub fn one_answer()
     ensures { OneAnswer }
