@@ -1,0 +1,12 @@
+//! The command `reach`: which assertions are broken by a run of a specification that passes its checks, and
+//! by which script.
+#![tactic(auto)]
+
+mod law;
+mod reach;
+mod reading;
+mod searching;
+mod text;
+
+pub use law::one_reach;
+pub use reach::Reach;
