@@ -98,7 +98,7 @@ class_right spec v table sound found =
 -- ---- in a step
 
 -- each cell that holds has the new code
-cell_once : (spec : Data) (v : ℕ) (table : Table) (old new : Codes) → IsSound spec → table_of spec v ≡ Some table → MeetsChecks spec table → IsJudged spec table old new
+pub cell_once : (spec : Data) (v : ℕ) (table : Table) (old new : Codes) → IsSound spec → table_of spec v ≡ Some table → MeetsChecks spec table → IsJudged spec table old new
     → GivesOrKeeps spec table old new (code_of new table.variable) → (k : ℕ) (r : Row) → slice_get table.rows k ≡ Some r → (column : ℕ) → IsTrue (row_cell_true spec table old new column r)
     → cell_value spec table r column table.heading old new ≡ code_of new table.variable
 cell_once spec v table old new sound found checks judged_pair g k r e column h =

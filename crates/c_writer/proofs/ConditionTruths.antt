@@ -8,7 +8,7 @@ use Rattle.std.specs.List.{list_all, list_any, AllByRecursion as Each}
 use Rattle.std.proofs.lemmas.Bool.{and_parts, ltb-true, eq-eqb, or_left, or_right, or_cases, false≢true}
 use Rattle.std.proofs.lemmas.Int.{ints}
 use Rattle.base.specs.declared.relation.Relation.{Relation}
-use Rattle.base.specs.declared.relation.Relation.TheVariants.{Equal, Differ, Less, AtMost, Greater, AtLeast}
+use Rattle.base.specs.declared.relation.Relation.TheVariants.{Equal, Differ}
 use Rattle.scr_spec.specs.Data.{Data}
 use Rattle.dd_formula.specs.declared.domain.Domain.{Domain}
 use Rattle.scr_spec.specs.declared.spec.Kind.{Kind}

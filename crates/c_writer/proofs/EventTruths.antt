@@ -35,7 +35,7 @@ OldShown names row spec old = (w : ℕ) → w < length spec.variables → name_v
 
 -- ---- members in a row
 
-all_known : (bs : List Bool) → all_true (map (λ b. Some b) bs) ≡ Some (list_all (λ b. b) bs)
+pub all_known : (bs : List Bool) → all_true (map (λ b. Some b) bs) ≡ Some (list_all (λ b. b) bs)
 all_known [] = refl
 all_known (true ∷ bs) = all_known bs
 all_known (false ∷ bs) = refl
@@ -87,7 +87,7 @@ guard_all spec old (Some d) = and_unit (is_true spec old d)
 one_known : (p : Option Bool) (a : Bool) → p ≡ Some a → ◌≡◌ {A = List (Option Bool)} (p ∷ []) (Some a ∷ [])
 one_known p a e = ap (λ x. x ∷ []) e
 
-two_known : (p q : Option Bool) (a b : Bool) → p ≡ Some a → q ≡ Some b → ◌≡◌ {A = List (Option Bool)} (p ∷ q ∷ []) (Some a ∷ Some b ∷ [])
+pub two_known : (p q : Option Bool) (a b : Bool) → p ≡ Some a → q ≡ Some b → ◌≡◌ {A = List (Option Bool)} (p ∷ q ∷ []) (Some a ∷ Some b ∷ [])
 two_known p q a b e f = ap (λ x. x ∷ q ∷ []) e ∙ ap (λ x. Some a ∷ x ∷ []) f
 
 negation : (names : Names) (row : Objects) (e : CExpr) (b : Bool) → truth_of names row e ≡ Some b → truth_of names row (Not e) ≡ Some (not b)

@@ -85,7 +85,7 @@ product_at names a b m n = record {
 -- ---- items
 
 -- the object of an item is there
-abbrev ObjectNamed : List (List ℕ) → Option (List ℕ) → Type 0
+abbrev pub ObjectNamed : List (List ℕ) → Option (List ℕ) → Type 0
 ObjectNamed names None = Unit {0}
 ObjectNamed names (Some name) = is_among names name ≡ true
 
@@ -114,11 +114,11 @@ leading_by names n o true m h = negated_at names n o m h
 leading_by names n o false m h = size_at names n o m h
 
 -- what is asked of an item
-record IsTermAt (names : List (List ℕ)) (w : LinearTerm) : Type 0 where
-  named : ObjectNamed names w.object
-  narrow : unsigned_abs w.coefficient ≤ 2147483647
+pub record IsTermAt (names : List (List ℕ)) (w : LinearTerm) : Type 0 where
+  pub named : ObjectNamed names w.object
+  pub narrow : unsigned_abs w.coefficient ≤ 2147483647
 
-leading_at : (names : List (List ℕ)) (w : LinearTerm) → IsTermAt names w → IsNumberAt names (leading_expr w) 4
+pub leading_at : (names : List (List ℕ)) (w : LinearTerm) → IsTermAt names w → IsNumberAt names (leading_expr w) 4
 leading_at names w it = leading_by names (unsigned_abs w.coefficient) w.object (is_negative w.coefficient) it.named it.narrow
 
 later_at : (names : List (List ℕ)) (w : LinearTerm) → IsTermAt names w → IsNumberAt names (size_expr (unsigned_abs w.coefficient) w.object) 4

@@ -8,14 +8,12 @@ use Rattle.std.proofs.lemmas.List.Sums.{sum_by-cons}
 use Rattle.std.proofs.lemmas.Option.{same_Some}
 use Rattle.std.proofs.Math.Nat.{mul-le-mul_left}
 use Rattle.scr_spec.specs.Data.{Data}
-use Rattle.dd_formula.specs.declared.domain.Domain.{Domain}
 use Rattle.scr_spec.specs.declared.cond.Operand.{Operand}
 use Rattle.scr_spec.specs.declared.cond.Operand.TheVariants as operand
 use Rattle.scr_spec.specs.declared.cond.Item.{Item}
 use Rattle.scr_spec.specs.declared.cond.Expr.{Expr}
 use Rattle.scr_spec.specs.Meaning.{Codes, code_of, truth_code, constant_value, operand_value, item_value, side_value}
-use Rattle.scr_spec.specs.Domains.{IsWithin, IsTyped, domain_of}
-use Rattle.dd_formula.specs.Domains.{domain_bound}
+use Rattle.scr_spec.specs.Domains.{IsTyped, domain_of}
 use Rattle.dd_formula.proofs.Totals.{neg_product}
 use Rattle.scr_spec.specs.Over.{operand_bound, item_bound, side_bound, is_operand_over, is_item_over, is_side_over}
 use Rattle.c_subset.specs.declared.expr.CExpr.{CExpr}
@@ -31,13 +29,13 @@ use Rattle.base.proofs.Sizes.{sum_size}
 
 -- ---- numbers in range
 
-checked_in : (z : ℤ) → unsigned_abs z ≤ 2147483647 → checked z ≡ Some z
+pub checked_in : (z : ℤ) → unsigned_abs z ≤ 2147483647 → checked z ≡ Some z
 checked_in z h = ap (λ b. cond b (Some z) None) (le-leb _ _ h)
 
 unit_times : (z : ℤ) → pos 1 *ℤ z ≡ z
 unit_times z = omega (arith, ints)
 
-times_unit : (z : ℤ) → z *ℤ pos 1 ≡ z
+pub times_unit : (z : ℤ) → z *ℤ pos 1 ≡ z
 times_unit z = omega (arith, ints)
 
 neg_size : (n : ℕ) → unsigned_abs (neg_ℤ (pos n)) ≡ n
@@ -126,7 +124,7 @@ leading_by names row w z true f e h k =
 leading_by names row w z false f e h k =
     size_number names row (unsigned_abs w.coefficient) w.object z e h k ∙ ap (λ x. Some (x *ℤ z)) (positive_is w.coefficient f)
 
-leading_number : (names : Names) (row : Objects) (w : LinearTerm) (z : ℤ) → object_number names row w.object ≡ Some z
+pub leading_number : (names : Names) (row : Objects) (w : LinearTerm) (z : ℤ) → object_number names row w.object ≡ Some z
     → unsigned_abs w.coefficient ≤ 2147483647 → unsigned_abs w.coefficient * unsigned_abs z ≤ 2147483647 → number_of names row (leading_expr w) ≡ Some (w.coefficient *ℤ z)
 leading_number names row w z e h k = leading_by names row w z (is_negative w.coefficient) refl e h k
 
@@ -240,7 +238,7 @@ items_sum names row spec plain primed old new (i ∷ is) acc each h =
     ap (λ m. fold sum_step m (map (term_number names row) (map later_term (map (term_of_item spec plain primed) is)))) here
     ∙ items_sum names row spec plain primed old new is (acc +ℤ value) each.1 total
 
-zero_plus : (z : ℤ) → pos 0 +ℤ z ≡ z
+pub zero_plus : (z : ℤ) → pos 0 +ℤ z ≡ z
 zero_plus z = omega (arith, ints)
 
 first_step : (names : Names) (row : Objects) (w : LinearTerm) (v : ℤ) → number_of names row (leading_expr w) ≡ Some v → unsigned_abs v ≤ 2147483647

@@ -10,7 +10,7 @@ use Rattle.scr_spec.specs.declared.state.Input.{Input}
 use Rattle.scr_spec.specs.Meaning.{Codes, code_of}
 use Rattle.scr_spec.specs.Relations.{is_monitored}
 use Rattle.scr_depend.specs.declared.order.Order.{Order}
-use Rattle.run_step.specs.Runs.{IsConsistent, IsInitial, IsStep, IsRun, Leads}
+use Rattle.run_step.specs.Runs.{IsConsistent, IsInitial, IsStep, IsRunBy, Leads}
 use Rattle.scr_depend.specs.Passes.{PassesChecks}
 use Rattle.run_step.proofs.Order.{monitored_within}
 use Rattle.run_step.proofs.Next.{step_consistent}
@@ -47,7 +47,7 @@ begins spec order old input new passes consistent step =
     }
 
 -- one call makes one step
-call_steps : (spec : Data) (order : Order) (first old : Codes) (input : Input) (new o : Codes) → PassesChecks spec order → IsConsistent spec old → IsStep spec old input new → length o ≡ length spec.variables
+pub call_steps : (spec : Data) (order : Order) (first old : Codes) (input : Input) (new o : Codes) → PassesChecks spec order → IsConsistent spec old → IsStep spec old input new → length o ≡ length spec.variables
     → call_effect (unit_of spec order.list first) (setter_name (variable_name spec input.variable)) input.code (old ++ o) ≡ Some (new ++ old)
 call_steps spec order first old input new o passes consistent step m =
     let monitored = step.may_come.freely.monitored in
@@ -56,8 +56,15 @@ call_steps spec order first old input new o passes consistent step m =
     (λ i lt. variable_right spec order old input new (get_or order.list i 0) passes consistent step (order_dependent spec order passes i lt))
     (slice_set old input.variable input.code) (begins spec order old input new passes consistent step))
 
-shows : (spec : Data) (order : Order) (first at o : Codes) → PassesChecks spec order → length at ≡ length spec.variables → ShowsState spec (unit_of spec order.list first) (at ++ o) at
+pub shows : (spec : Data) (order : Order) (first at o : Codes) → PassesChecks spec order → length at ≡ length spec.variables → ShowsState spec (unit_of spec order.list first) (at ++ o) at
 shows spec order first at o passes n v lt = ap (λ ns. object_value ns (at ++ o) (new_object spec v)) (unit_names spec order.list first) ∙ new_value spec at o v passes.sound n lt
+
+-- ---- runs by any relation that calls make
+
+-- a call makes what the relation says of a consistent state, and that is consistent
+abbrev pub Makes : Data → Order → Codes → (Codes → Input → Codes → Type 0) → Type 0
+Makes spec order first step = (old : Codes) (input : Input) (new o : Codes) → IsConsistent spec old → length o ≡ length spec.variables → step old input new
+    → (call_effect (unit_of spec order.list first) (setter_name (variable_name spec input.variable)) input.code (old ++ o) ≡ Some (new ++ old)) × IsConsistent spec new
 
 -- the rows from a state on
 record ShowsRun (spec : Data) (unit : CUnit) (row : Objects) (inputs : List Input) (states : List Codes) : Type 0 where
@@ -65,31 +72,29 @@ record ShowsRun (spec : Data) (unit : CUnit) (row : Objects) (inputs : List Inpu
   meant : rows_from unit row (map (λ i. (setter_name (i.0), i.1)) (map (named_input spec) inputs)) ≡ Some rows
   shown : ShowStates spec unit rows states
 
-run_from : (spec : Data) (order : Order) (first : Codes) → PassesChecks spec order → (inputs : List Input) (states : List Codes) (at o : Codes) → length o ≡ length spec.variables → IsConsistent spec at
-    → Leads (IsStep spec) at inputs states → ShowsRun spec (unit_of spec order.list first) (at ++ o) inputs (at ∷ states)
-run_from spec order first passes [] [] at o m consistent leads = record { rows = (at ++ o) ∷ []; meant = refl; shown = (shows spec order first at o passes consistent.typed.one_each, tt) }
-run_from spec order first passes [] (new ∷ states) at o m consistent leads = absurd leads
-run_from spec order first passes (input ∷ inputs) [] at o m consistent leads = absurd leads
-run_from spec order first passes (input ∷ inputs) (new ∷ states) at o m consistent leads =
+run_from : (spec : Data) (order : Order) (first : Codes) (step : Codes → Input → Codes → Type 0) → PassesChecks spec order → Makes spec order first step → (inputs : List Input) (states : List Codes) (at o : Codes)
+    → length o ≡ length spec.variables → IsConsistent spec at → Leads step at inputs states → ShowsRun spec (unit_of spec order.list first) (at ++ o) inputs (at ∷ states)
+run_from spec order first step passes makes [] [] at o m consistent leads = record { rows = (at ++ o) ∷ []; meant = refl; shown = (shows spec order first at o passes consistent.typed.one_each, tt) }
+run_from spec order first step passes makes [] (new ∷ states) at o m consistent leads = absurd leads
+run_from spec order first step passes makes (input ∷ inputs) [] at o m consistent leads = absurd leads
+run_from spec order first step passes makes (input ∷ inputs) (new ∷ states) at o m consistent leads =
     let unit = unit_of spec order.list first in
-    let step = leads.0 in
-    let rest = run_from spec order first passes inputs states new at consistent.typed.one_each (step_consistent spec at input new passes.sound step) leads.1 in
+    let made = makes at input new o consistent m leads.0 in
+    let rest = run_from spec order first step passes makes inputs states new at consistent.typed.one_each made.1 leads.1 in
     let cs = map (λ (i : List ℕ × ℤ). (setter_name (i.0), i.1)) (map (named_input spec) inputs) in
     record {
       rows = (at ++ o) ∷ rest.rows;
-      meant =
-          ap (option_and_then (λ next. option_map (λ rows. (at ++ o) ∷ rows) (rows_from unit next cs))) (call_steps spec order first at input new o passes consistent step m)
-          ∙ ap (option_map (λ rows. (at ++ o) ∷ rows)) rest.meant;
+      meant = ap (option_and_then (λ next. option_map (λ rows. (at ++ o) ∷ rows) (rows_from unit next cs))) made.0 ∙ ap (option_map (λ rows. (at ++ o) ∷ rows)) rest.meant;
       shown = (shows spec order first at o passes consistent.typed.one_each, rest.shown);
     }
 
 -- from the initial state on
-pub runs_as : (spec : Data) (order : Order) (first : Codes) → PassesChecks spec order → IsInitial spec first → (inputs : List Input) (states : List Codes) → Leads (IsStep spec) first inputs states
-    → RunsAs spec (unit_of spec order.list first) inputs (first ∷ states)
-runs_as spec order first passes initial inputs states leads =
+runs_as : (spec : Data) (order : Order) (first : Codes) (step : Codes → Input → Codes → Type 0) → PassesChecks spec order → Makes spec order first step → IsInitial spec first → (inputs : List Input) (states : List Codes)
+    → Leads step first inputs states → RunsAs spec (unit_of spec order.list first) inputs (first ∷ states)
+runs_as spec order first step passes makes initial inputs states leads =
     let unit = unit_of spec order.list first in
     let consistent : IsConsistent spec first = record { typed = initial.typed; own = initial.own } in
-    let run = run_from spec order first passes inputs states first first initial.typed.one_each consistent leads in
+    let run = run_from spec order first step passes makes inputs states first first initial.typed.one_each consistent leads in
     record {
       rows = run.rows;
       meant = ap (λ row. rows_from unit row (map (λ (i : List ℕ × ℤ). (setter_name (i.0), i.1)) (map (named_input spec) inputs))) (unit_starts spec order.list first initial.typed.one_each) ∙ run.meant;
@@ -97,18 +102,23 @@ runs_as spec order first passes initial inputs states leads =
     }
 
 -- a run begins with the one initial state
-right_run : (spec : Data) (order : Order) (first : Codes) → PassesChecks spec order → IsInitial spec first → (inputs : List Input) (states : List Codes) → IsRun spec inputs states
-    → RunsAs spec (unit_of spec order.list first) inputs states
-right_run spec order first passes initial inputs [] run = absurd run
-right_run spec order first passes initial inputs (start ∷ states) run =
+pub right_run : (spec : Data) (order : Order) (first : Codes) (step : Codes → Input → Codes → Type 0) → PassesChecks spec order → Makes spec order first step → IsInitial spec first → (inputs : List Input) (states : List Codes)
+    → IsRunBy step spec inputs states → RunsAs spec (unit_of spec order.list first) inputs states
+right_run spec order first step passes makes initial inputs [] run = absurd run
+right_run spec order first step passes makes initial inputs (start ∷ states) run =
     let same : start ≡ first = one_initial spec order start first passes run.0 initial in
     subst (λ s. RunsAs spec (unit_of spec order.list first) inputs (s ∷ states)) (sym same)
-    (runs_as spec order first passes initial inputs states (subst (λ s. Leads (IsStep spec) s inputs states) same run.1))
+    (runs_as spec order first step passes makes initial inputs states (subst (λ s. Leads step s inputs states) same run.1))
+
+-- ---- steps
+
+pub steps_made : (spec : Data) (order : Order) (first : Codes) → PassesChecks spec order → Makes spec order first (IsStep spec)
+steps_made spec order first passes old input new o consistent m step = (call_steps spec order first old input new o passes consistent step m, step_consistent spec old input new passes.sound step)
 
 pub unit_right : UnitIsRight
 unit_right = record {
-  right = λ spec order first passes initial inputs states run. right_run spec order first passes initial inputs states run;
+  right = λ spec order first passes initial inputs states run. right_run spec order first (IsStep spec) passes (steps_made spec order first passes) initial inputs states run;
   valid = λ spec order first inputs passes initial valid.
       let made = one_run.run spec order inputs passes valid in
-      record { states = made.0; run = made.1; runs_as = right_run spec order first passes initial inputs made.0 made.1 };
+      record { states = made.0; run = made.1; runs_as = right_run spec order first (IsStep spec) passes (steps_made spec order first passes) initial inputs made.0 made.1 };
 }

@@ -10,5 +10,5 @@ mod side;
 mod table;
 mod unit;
 
-pub use law::{unit_is_right, unit_keeps_rules};
+pub use law::{every_caller_is_right, unit_is_right, unit_keeps_rules};
 pub use unit::unit_of;
