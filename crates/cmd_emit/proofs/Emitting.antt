@@ -12,6 +12,7 @@ use Rattle.scr_depend.specs.Passes.{PassesChecks}
 use Rattle.run_step.proofs.Runs.{one_next_state}
 use Rattle.c_writer.specs.Units.{unit_of}
 use Rattle.c_writer.proofs.UnitRuns.{unit_right}
+use Rattle.c_writer.proofs.Callers.{callers_right}
 use Rattle.c_writer.proofs.UnitRules.{unit_kept}
 use Rattle.c_print.specs.Printed.{printed}
 use Rattle.c_print.proofs.Law.{reads_back}
@@ -76,6 +77,7 @@ unit_is_right spec order out k made =
       reads = subst (λ bytes. Reads bytes unit) (sym made.text) (reads_back unit (unit_kept.kept spec order made.first k made.initial));
       right = unit_right.right spec order made.first k made.initial;
       valid = λ inputs valid. unit_right.valid spec order made.first inputs k made.initial valid;
+      callers = callers_right.right spec order made.first k made.initial;
     }
 
 emitted_is_right : (limit : ℕ) (text : List ℕ) (spec : Data) (order : Order) (out : List ℕ) (status : Status) → Passes limit text spec order → EmitsUnit spec out status → IsRightText spec out

@@ -10,6 +10,7 @@ use Rattle.c_subset.specs.declared.unit.CUnit.{CUnit}
 use Rattle.c_reader.specs.Text.{Reads}
 use Rattle.c_writer.specs.Units.{unit_of}
 use Rattle.c_writer.specs.Laws.{IsRightUnit, RunsTogether}
+use Rattle.c_writer.specs.Callers.{IsRightForCallers}
 use Rattle.c_print.specs.Printed.{printed}
 use Rattle.cmd_work.specs.declared.status.Status.{Status}
 use Rattle.cmd_work.specs.declared.status.Status.TheVariants.{Done}
@@ -43,9 +44,11 @@ Emits limit = ByFile (EmitsText limit)
 
 -- The bytes are a text of a unit of C that runs as the specification: for each run of the specification the calls of its
 -- inputs have a meaning, and at each moment the objects of all variables have their codes in the state of that run. Each
--- valid list of inputs has such a run.
+-- valid list of inputs has such a run. It is right for every caller, too: for one that hands in present codes, and for one
+-- that asks a condition first, whatever arguments it has.
 pub record IsRightText (spec : Data) (bytes : List ℕ) : Type 0 where
   pub unit : CUnit
   pub reads : Reads bytes unit
   pub right : IsRightUnit spec unit
   pub valid : (inputs : List Input) → AreValid spec inputs → RunsTogether spec unit inputs
+  pub callers : IsRightForCallers spec unit
