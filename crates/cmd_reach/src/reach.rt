@@ -1,6 +1,7 @@
 //! The command `reach`: the least script that breaks each assertion of a second file.
 ghost use Rattle.std.specs.Prelude.{◌≤◌, ◌<◌, true};
 ghost use Rattle.dd_store.specs.declared.store.TheConstants.{SPLIT_LIMIT};
+ghost use Rattle.run_reach.specs.declared.search.TheConstants.{STATE_LIMIT};
 
 use crate::reading::unread_line;
 use crate::searching::reach_text;
@@ -20,6 +21,7 @@ pub struct Reach {
     pub most: usize,
     pub ghost limited: { limit ≤ SPLIT_LIMIT },
     pub ghost some: { 0 < most },
+    pub ghost bounded: { most ≤ STATE_LIMIT },
 }
 
 /// The second file of the command, which holds assertions on a specification that passed its checks.

@@ -13,6 +13,6 @@ mod tree;
 mod turn;
 
 pub use answer::Answer;
-pub use law::{one_answer, one_order};
-pub use search::seek;
+pub use law::{limit_of_states, one_answer, one_order};
+pub use search::{STATE_LIMIT, seek};
 pub use target::{CellHolds, IsBroken, Target};

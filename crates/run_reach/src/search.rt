@@ -18,6 +18,9 @@ use scr_spec::State;
 use sqlite_items::Items;
 use std::alloc::Global;
 
+/// The most states that a search may have room for.
+pub const STATE_LIMIT: usize = 1_000_000;
+
 /// The tree of the first state alone.
 fn rooted(alloc: Global, first: &State) -> Result<Tree, NoMemory>
     ensures { IfOk result (λ tree. tree ≡ root first.now.codes ∷ []) }
