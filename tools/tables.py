@@ -14,25 +14,19 @@ class Table:
 
     def __init__(self, kind, name, over):
         self.kind, self.name, self.over = kind, name, over
-        self.rows, self.values, self.targets = [], [], []
+        self.rows, self.values, self.changes = [], [], {}
 
     def add_row(self, modes, cells):
         self.rows.append((split(modes, ","), split(cells, "|")))
 
     def add_change(self, source, target, event):
         """Adds a line of a mode table. Lines with the same source and target are one cell."""
-        sources = [modes[0] for modes, _ in self.rows]
-        if source not in sources:
-            self.rows.append(([source], []))
-            self.targets.append([])
-            sources.append(source)
-        place = sources.index(source)
-        cells, targets = self.rows[place][1], self.targets[place]
-        if target in targets:
-            cells[targets.index(target)] += " OR " + event
-        else:
-            targets.append(target)
-            cells.append(event)
+        self.changes.setdefault(source, {}).setdefault(target, []).append(event)
+
+    def close(self):
+        """Makes the rows of a mode table, once all its lines are there."""
+        for source, cells in self.changes.items():
+            self.rows.append(([source], [" OR ".join(events) for events in cells.values()]))
 
 
 def split(words, sign):
@@ -81,6 +75,8 @@ def tables(lines):
             found[-1].values = split(line[7:], "|")
         elif re.match(r"(ROW|FROM|VALUES)\b", line):
             stray.append(line)
+    for table in found:
+        table.close()
     return found, stray
 
 
@@ -88,7 +84,7 @@ def sizes(lines):
     """The variables of a text in order of declaration, each with the number of its values."""
     types, found = {"BOOLEAN": 2}, {}
     for line in map(statement, lines):
-        span = re.match(r"TYPE (\w+) ?= ?(- ?)?(\d+) ?\.\. ?(- ?)?(\d+)$", line)
+        span = re.match(r"TYPE (\w+) ?= ?(- ?)?(\d{1,7}) ?\.\. ?(- ?)?(\d{1,7})$", line)
         names = re.match(r"(TYPE|MODECLASS) (\w+) ?= ?\{(.*)\}", line)
         variable = re.match(r"(?:MONITORED|TERM|CONTROLLED) (\w+) ?: ?(\w+)", line)
         if span:
