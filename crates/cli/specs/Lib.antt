@@ -1,4 +1,2 @@
-pub mod Form
-pub mod Answers
+pub mod Commands
 pub mod Holds
-pub mod Accepted

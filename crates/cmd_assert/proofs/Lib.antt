@@ -1,3 +1,4 @@
 pub mod Verdicts
 pub mod Files
 pub mod Lines
+pub mod Offering

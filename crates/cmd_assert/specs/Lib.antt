@@ -1,3 +1,4 @@
 pub mod Texts
 pub mod Asserts
 pub mod Laws
+pub mod Offered

@@ -6,8 +6,8 @@ use crate::judging::assert_text;
 use crate::reading::unread_line;
 use base::NoMemory;
 use base_io::{Shelf, Sink};
-use cmd_checked::check_file;
-use cmd_work::{Command, First, Job, Loaded, Status, Stop, respond};
+use cmd_checked::{check_file, two_checked};
+use cmd_work::{Command, First, Loaded, OneFile, Status, Stop, TwoFiles, perform_two, respond_one};
 use scr_depend::Checked;
 use scr_parse::{TEXT_LIMIT, TextKind};
 use std::alloc::Global;
@@ -27,7 +27,7 @@ pub(crate) struct Asserted<'a> {
     pub ghost limited: { limit ≤ SPLIT_LIMIT },
 }
 
-impl<'a> Job for Asserted<'a> {
+impl<'a> OneFile for Asserted<'a> {
     ghost use Rattle.scr_spec.specs.Shown.{data_of};
     ghost use Rattle.scr_parse.specs.declared.text.TheConstants.{TEXT_LIMIT};
     ghost use Rattle.cmd_assert.specs.Asserts.{AssertsFile};
@@ -51,7 +51,7 @@ impl<'a> Job for Asserted<'a> {
     }
 }
 
-impl Command for Assert {
+impl TwoFiles for Assert {
     ghost use Rattle.scr_spec.specs.Shown.{data_of};
     ghost use Rattle.scr_parse.specs.declared.text.TheConstants.{TEXT_LIMIT};
     ghost use Rattle.cmd_checked.specs.Checking.{ReachesScript};
@@ -89,6 +89,25 @@ impl Command for Assert {
             limit: self.limit,
             checked: base,
         };
-        respond(&job, alloc, name, shelf, out)
+        respond_one(&job, alloc, name, shelf, out)
     }
+}
+
+impl Command for Assert {
+    ghost use Rattle.cmd_assert.specs.Offered.{asked_of};
+
+    ghost takes = { asked_of };
+
+    fn perform<S: Shelf, K: Sink>(
+        alloc: Global,
+        words: &[String],
+        shelf: &mut S,
+        out: &mut K,
+    ) -> Option<Result<Status, Stop>> {
+        let asked = two_checked("assert", words)?;
+        let command = Assert { limit: asked.limit };
+        Some(perform_two(&command, alloc, asked.name, asked.second, shelf, out))
+    }
+
+    fn is_right() {}
 }

@@ -5,4 +5,5 @@ pub mod Telling
 pub mod Checks
 pub mod First
 pub mod Scripts
+pub mod Offering
 pub mod Refused

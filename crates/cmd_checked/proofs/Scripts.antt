@@ -9,10 +9,10 @@ use Rattle.scr_depend.specs.declared.order.Order.{Order}
 use Rattle.scr_depend.specs.Passes.{PassesChecks}
 use Rattle.cmd_work.specs.declared.status.Status.{Status}
 use Rattle.cmd_work.specs.declared.whole.Loaded.{Loaded}
-use Rattle.cmd_work.specs.Command.{IsFirst, IsOwnFirst}
+use Rattle.cmd_work.specs.TwoFiles.{IsFirst, IsOwnFirst}
 use Rattle.cmd_work.specs.Ends.{IsFront, HasFront}
 use Rattle.cmd_work.specs.Load.{IsLoaded}
-use Rattle.cmd_work.proofs.CommandLemmas.{loaded_file}
+use Rattle.cmd_work.proofs.TwoFilesLemmas.{loaded_file}
 use Rattle.cmd_work.proofs.EndsLemmas.{by_file_once, by_file_some}
 use Rattle.cmd_work.proofs.WalkLemmas.{front_of}
 use Rattle.cmd_checked.specs.declared.checking.Checking.{Checking}

@@ -6,8 +6,8 @@ use Rattle.scr_resolve.specs.Texts.{Spells}
 use Rattle.scr_depend.specs.declared.checked.Checked.{Checked}
 use Rattle.scr_depend.specs.declared.order.Order.{Order}
 use Rattle.prove_tables.specs.Outcomes.{IsPassed}
-use Rattle.cmd_work.specs.declared.command.First.{First}
-use Rattle.cmd_work.specs.declared.command.First.TheVariants.{Answer, Base}
+use Rattle.cmd_work.specs.declared.two_files.First.{First}
+use Rattle.cmd_work.specs.declared.two_files.First.TheVariants.{Answer, Base}
 use Rattle.cmd_work.specs.declared.status.Status.{Status}
 use Rattle.cmd_work.specs.declared.status.Status.TheVariants.{Done}
 use Rattle.cmd_work.specs.Ends.{ByFile, is_own}

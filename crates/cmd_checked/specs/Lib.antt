@@ -3,3 +3,5 @@ pub mod Reports
 pub mod Checking
 pub mod Tells
 pub mod Laws
+pub mod Words
+pub mod Offered

@@ -5,3 +5,4 @@ pub mod Run
 pub mod Front
 pub mod Files
 pub mod Same
+pub mod Offering

@@ -2,3 +2,4 @@ pub mod Text
 pub mod Covers
 pub mod Tells
 pub mod Laws
+pub mod Offered

@@ -5,8 +5,8 @@ ghost use Rattle.dd_store.specs.declared.store.TheConstants.{SPLIT_LIMIT};
 use crate::covering::Covering;
 use base::NoMemory;
 use base_io::{Shelf, Sink};
-use cmd_checked::check_file;
-use cmd_work::{Command, First, Loaded, Status, Stop, gather_lines, put};
+use cmd_checked::{check_file, two_checked};
+use cmd_work::{Command, First, Loaded, Status, Stop, TwoFiles, gather_lines, perform_two, put};
 use scr_depend::Checked;
 use scr_parse::TEXT_LIMIT;
 use std::alloc::Global;
@@ -18,7 +18,7 @@ pub struct Cover {
     pub ghost limited: { limit ≤ SPLIT_LIMIT },
 }
 
-impl Command for Cover {
+impl TwoFiles for Cover {
     ghost use Rattle.scr_spec.specs.Shown.{data_of};
     ghost use Rattle.scr_parse.specs.declared.text.TheConstants.{TEXT_LIMIT};
     ghost use Rattle.cmd_checked.specs.Checking.{ReachesScript};
@@ -57,4 +57,23 @@ impl Command for Cover {
         put(out, text.as_slice())?;
         Ok(status)
     }
+}
+
+impl Command for Cover {
+    ghost use Rattle.cmd_cover.specs.Offered.{asked_of};
+
+    ghost takes = { asked_of };
+
+    fn perform<S: Shelf, K: Sink>(
+        alloc: Global,
+        words: &[String],
+        shelf: &mut S,
+        out: &mut K,
+    ) -> Option<Result<Status, Stop>> {
+        let asked = two_checked("cover", words)?;
+        let command = Cover { limit: asked.limit };
+        Some(perform_two(&command, alloc, asked.name, asked.second, shelf, out))
+    }
+
+    fn is_right() {}
 }

@@ -22,7 +22,7 @@ use Rattle.cmd_work.specs.declared.status.Status.TheVariants.{Done}
 use Rattle.cmd_work.specs.declared.whole.Loaded.{Loaded}
 use Rattle.cmd_work.specs.Load.{IsLoaded}
 use Rattle.cmd_work.specs.Ends.{IsFront}
-use Rattle.cmd_work.proofs.CommandLemmas.{loaded_file}
+use Rattle.cmd_work.proofs.TwoFilesLemmas.{loaded_file}
 use Rattle.cmd_work.proofs.EndsLemmas.{by_file_once, by_file_some}
 use Rattle.cmd_checked.specs.declared.checking.Checking.TheVariants.{Passed}
 use Rattle.cmd_checked.specs.Reports.{ChecksText}

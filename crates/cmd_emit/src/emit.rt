@@ -5,10 +5,11 @@ ghost use Rattle.cmd_emit.specs.Emits.{IsUnitText};
 ghost use Rattle.dd_store.specs.declared.store.TheConstants.{SPLIT_LIMIT};
 
 use base::NoMemory;
+use base_io::{Shelf, Sink};
 use c_print::print_c;
 use c_writer::unit_of;
-use cmd_checked::{Checking, check_file};
-use cmd_work::{Job, Loaded, Status};
+use cmd_checked::{Checking, check_file, one_checked};
+use cmd_work::{Command, Loaded, OneFile, Status, Stop, perform_one};
 use run_step::initial;
 use scr_depend::Checked;
 use scr_parse::TEXT_LIMIT;
@@ -30,7 +31,7 @@ fn unit_text(alloc: Global, checked: &Checked) -> Result<Vec<u8>, NoMemory>
     print_c(alloc, &unit)
 }
 
-impl Job for Emit {
+impl OneFile for Emit {
     ghost use Rattle.cmd_emit.specs.Emits.{Emits};
     ghost use Rattle.scr_parse.specs.declared.text.TheConstants.{TEXT_LIMIT};
 
@@ -48,4 +49,23 @@ impl Job for Emit {
             Checking::Finished(report, status) => Ok((report, status)),
         }
     }
+}
+
+impl Command for Emit {
+    ghost use Rattle.cmd_emit.specs.Offered.{asked_of};
+
+    ghost takes = { asked_of };
+
+    fn perform<S: Shelf, K: Sink>(
+        alloc: Global,
+        words: &[String],
+        shelf: &mut S,
+        out: &mut K,
+    ) -> Option<Result<Status, Stop>> {
+        let asked = one_checked("emit", words)?;
+        let command = Emit { limit: asked.limit };
+        Some(perform_one(&command, alloc, asked.name, shelf, out))
+    }
+
+    fn is_right() {}
 }

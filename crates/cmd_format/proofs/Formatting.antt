@@ -13,7 +13,7 @@ use Rattle.cmd_work.specs.declared.status.Status.TheVariants.{Done, SpecRefused}
 use Rattle.cmd_work.specs.declared.whole.Loaded.{Loaded}
 use Rattle.cmd_work.specs.Load.{IsLoaded}
 use Rattle.cmd_work.specs.Ends.{IsFront}
-use Rattle.cmd_work.proofs.CommandLemmas.{loaded_file}
+use Rattle.cmd_work.proofs.TwoFilesLemmas.{loaded_file}
 use Rattle.cmd_work.proofs.EndsLemmas.{by_file_once, by_file_some}
 use Rattle.cmd_checked.specs.Spelling.{IsRefusedWith}
 use Rattle.cmd_format.specs.Formats.{FormatsText, formatted, refused, Formats}

@@ -13,7 +13,7 @@ pub const LAST_LATCH: u32 = 40;
 
 /// The canonical text of the chain whose last latch has the number `n`. It has `n + 1` latches, numbered from 0.
 #[tactic(auto, unfolding(crate::specs::Chain::chain_text))]
-pub fn generate(alloc: Global, n: u32) -> Result<Vec<u8>, NoMemory>
+pub fn generate_chain(alloc: Global, n: u32) -> Result<Vec<u8>, NoMemory>
     requires { n ≤ LAST_LATCH }
     ensures { IfOk result (λ text. text.items ≡ chain_text n) }
 {

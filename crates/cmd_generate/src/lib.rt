@@ -2,7 +2,11 @@
 #![tactic(auto)]
 
 mod chain;
+mod command;
 mod declaration;
 mod table;
+mod words;
 
-pub use chain::{LAST_LATCH, generate};
+pub use chain::{LAST_LATCH, generate_chain};
+pub use command::Generate;
+pub use words::last_latch;

@@ -4,8 +4,9 @@ ghost use Rattle.dd_store.specs.declared.store.TheConstants.{SPLIT_LIMIT};
 
 use crate::classes::derive_all;
 use base::NoMemory;
-use cmd_checked::{Checking, check_file};
-use cmd_work::{Job, Loaded, Status};
+use base_io::{Shelf, Sink};
+use cmd_checked::{Checking, check_file, one_checked};
+use cmd_work::{Command, Loaded, OneFile, Status, Stop, perform_one};
 use scr_parse::TEXT_LIMIT;
 use std::alloc::Global;
 
@@ -16,7 +17,7 @@ pub struct Invariants {
     pub ghost limited: { limit ≤ SPLIT_LIMIT },
 }
 
-impl Job for Invariants {
+impl OneFile for Invariants {
     ghost use Rattle.cmd_invariants.specs.Derives.{DerivesFile};
     ghost use Rattle.scr_parse.specs.declared.text.TheConstants.{TEXT_LIMIT};
 
@@ -34,4 +35,23 @@ impl Job for Invariants {
             Checking::Finished(report, status) => Ok((report, status)),
         }
     }
+}
+
+impl Command for Invariants {
+    ghost use Rattle.cmd_invariants.specs.Offered.{asked_of};
+
+    ghost takes = { asked_of };
+
+    fn perform<S: Shelf, K: Sink>(
+        alloc: Global,
+        words: &[String],
+        shelf: &mut S,
+        out: &mut K,
+    ) -> Option<Result<Status, Stop>> {
+        let asked = one_checked("invariants", words)?;
+        let command = Invariants { limit: asked.limit };
+        Some(perform_one(&command, alloc, asked.name, shelf, out))
+    }
+
+    fn is_right() {}
 }

@@ -4,7 +4,9 @@ ghost use Rattle.cmd_generate.specs.declared.chain.TheConstants.{LAST_LATCH};
 
 use crate::summary::large;
 use base::NoMemory;
-use cmd_work::{FilelessJob, Status};
+use base_io::{Shelf, Sink};
+use cmd_generate::last_latch;
+use cmd_work::{Command, NoFile, Status, Stop, perform_none};
 use std::alloc::Global;
 
 /// The command `large`, with the number of the last latch.
@@ -14,7 +16,7 @@ pub struct Large {
     pub ghost limited: { last ≤ LAST_LATCH },
 }
 
-impl FilelessJob for Large {
+impl NoFile for Large {
     ghost use Rattle.cmd_large.specs.Summaries.{LargeAnswers};
 
     ghost answers = { λ job. LargeAnswers job.last };
@@ -22,4 +24,22 @@ impl FilelessJob for Large {
     fn answer(&self, alloc: Global) -> Result<(Vec<u8>, Status), NoMemory> {
         large(alloc, self.last)
     }
+}
+
+impl Command for Large {
+    ghost use Rattle.cmd_large.specs.Offered.{asked_of};
+
+    ghost takes = { asked_of };
+
+    fn perform<S: Shelf, K: Sink>(
+        alloc: Global,
+        words: &[String],
+        shelf: &mut S,
+        out: &mut K,
+    ) -> Option<Result<Status, Stop>> {
+        let last = last_latch("large", words)?;
+        Some(perform_none(&Large { last }, alloc, shelf, out))
+    }
+
+    fn is_right() {}
 }

@@ -7,7 +7,7 @@ ghost use Rattle.cmd_large.specs.Summaries.{TextSummary, LargeAnswers};
 use crate::spec::summarize_spec;
 use base::NoMemory;
 use cmd_checked::{Spelling, spell_text};
-use cmd_generate::generate;
+use cmd_generate::generate_chain;
 use cmd_work::Status;
 use std::alloc::Global;
 
@@ -27,6 +27,6 @@ pub(crate) fn large(alloc: Global, n: u32) -> Result<(Vec<u8>, Status), NoMemory
     ensures exact { IfOk result (λ r. LargeAnswers n r.0.items r.1) }
     ensures status { IfOk result (λ r. IsTrue (is_own r.1)) }
 {
-    let text = generate(alloc, n)?;
+    let text = generate_chain(alloc, n)?;
     summarize(alloc, n + 1, text.as_slice())
 }

@@ -8,7 +8,7 @@ use crate::searching::reach_text;
 use base::NoMemory;
 use base_io::{Shelf, Sink};
 use cmd_checked::check_file;
-use cmd_work::{Command, First, Job, Loaded, Status, Stop, respond};
+use cmd_work::{First, Loaded, OneFile, Status, Stop, TwoFiles, respond_one};
 use scr_depend::Checked;
 use scr_parse::{TEXT_LIMIT, TextKind};
 use std::alloc::Global;
@@ -32,7 +32,7 @@ pub(crate) struct Asserted<'a> {
     pub ghost some: { 0 < most },
 }
 
-impl<'a> Job for Asserted<'a> {
+impl<'a> OneFile for Asserted<'a> {
     ghost use Rattle.scr_spec.specs.Shown.{data_of};
     ghost use Rattle.scr_parse.specs.declared.text.TheConstants.{TEXT_LIMIT};
     ghost use Rattle.cmd_reach.specs.Reaches.{ReachesFile};
@@ -56,7 +56,7 @@ impl<'a> Job for Asserted<'a> {
     }
 }
 
-impl Command for Reach {
+impl TwoFiles for Reach {
     ghost use Rattle.scr_spec.specs.Shown.{data_of};
     ghost use Rattle.scr_parse.specs.declared.text.TheConstants.{TEXT_LIMIT};
     ghost use Rattle.cmd_checked.specs.Checking.{ReachesScript};
@@ -94,6 +94,6 @@ impl Command for Reach {
             most: self.most,
             checked: base,
         };
-        respond(&job, alloc, name, shelf, out)
+        respond_one(&job, alloc, name, shelf, out)
     }
 }

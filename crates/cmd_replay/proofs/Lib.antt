@@ -4,3 +4,4 @@ pub mod Existence
 pub mod Held
 pub mod Refused
 pub mod Files
+pub mod Offering

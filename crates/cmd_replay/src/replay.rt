@@ -5,8 +5,8 @@ ghost use Rattle.dd_store.specs.declared.store.TheConstants.{SPLIT_LIMIT};
 use crate::replaying::Replaying;
 use base::NoMemory;
 use base_io::{Shelf, Sink};
-use cmd_checked::check_file;
-use cmd_work::{Command, First, Loaded, Status, Stop, answer_lines};
+use cmd_checked::{check_file, two_checked};
+use cmd_work::{Command, First, Loaded, Status, Stop, TwoFiles, answer_lines, perform_two};
 use scr_depend::Checked;
 use scr_parse::TEXT_LIMIT;
 use std::alloc::Global;
@@ -18,7 +18,7 @@ pub struct Replay {
     pub ghost limited: { limit ≤ SPLIT_LIMIT },
 }
 
-impl Command for Replay {
+impl TwoFiles for Replay {
     ghost use Rattle.scr_spec.specs.Shown.{data_of};
     ghost use Rattle.scr_parse.specs.declared.text.TheConstants.{TEXT_LIMIT};
     ghost use Rattle.cmd_checked.specs.Checking.{ReachesScript};
@@ -55,4 +55,23 @@ impl Command for Replay {
         let mut replaying = Replaying::new(alloc, base)?;
         answer_lines(&mut replaying, alloc, name, shelf, out)
     }
+}
+
+impl Command for Replay {
+    ghost use Rattle.cmd_replay.specs.Offered.{asked_of};
+
+    ghost takes = { asked_of };
+
+    fn perform<S: Shelf, K: Sink>(
+        alloc: Global,
+        words: &[String],
+        shelf: &mut S,
+        out: &mut K,
+    ) -> Option<Result<Status, Stop>> {
+        let asked = two_checked("replay", words)?;
+        let command = Replay { limit: asked.limit };
+        Some(perform_two(&command, alloc, asked.name, asked.second, shelf, out))
+    }
+
+    fn is_right() {}
 }

@@ -15,11 +15,11 @@ use Rattle.base.specs.declared.memory.NoMemory.{NoMemory}
 use Rattle.cmd_work.specs.declared.status.Status.{Status}
 use Rattle.cmd_work.specs.declared.status.Status.TheVariants.{Done, ReadFault, CodeRefused}
 use Rattle.cmd_work.specs.declared.walk.TheConstants.{SCRIPT_LIMIT}
-use Rattle.cmd_work.specs.declared.command.First.{First}
-use Rattle.cmd_work.specs.declared.command.First.TheVariants.{Answer, Base}
+use Rattle.cmd_work.specs.declared.two_files.First.{First}
+use Rattle.cmd_work.specs.declared.two_files.First.TheVariants.{Answer, Base}
 use Rattle.cmd_work.specs.declared.whole.Loaded.{Loaded}
 use Rattle.cmd_work.specs.declared.whole.Loaded.TheVariants.{Whole, TooLong}
-use Rattle.cmd_work.specs.Command.{IsFirst}
+use Rattle.cmd_work.specs.TwoFiles.{IsFirst}
 use Rattle.cmd_work.specs.Ends.{IsFront, HasFront}
 use Rattle.cmd_work.specs.Load.{IsLoaded}
 use Rattle.cmd_work.specs.Closing.{closing_status}

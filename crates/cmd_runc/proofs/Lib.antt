@@ -5,3 +5,4 @@ pub mod Existence
 pub mod Steps
 pub mod Told
 pub mod Files
+pub mod Offering

@@ -2,8 +2,8 @@
 use Rattle.std.specs.Prelude.{◌≡◌, ℕ}
 use Rattle.c_subset.specs.declared.unit.CUnit.{CUnit}
 use Rattle.cmd_work.specs.declared.status.Status.TheVariants.{CodeRefused}
-use Rattle.cmd_work.specs.declared.command.First.{First}
-use Rattle.cmd_work.specs.declared.command.First.TheVariants.{Answer, Base}
+use Rattle.cmd_work.specs.declared.two_files.First.{First}
+use Rattle.cmd_work.specs.declared.two_files.First.TheVariants.{Answer, Base}
 use Rattle.cmd_runc.specs.Texts.{refused_text}
 
 -- the whole answer is that the text is refused at this line

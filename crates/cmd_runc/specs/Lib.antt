@@ -4,3 +4,4 @@ pub mod Runs
 pub mod Tells
 pub mod Firsts
 pub mod Laws
+pub mod Offered

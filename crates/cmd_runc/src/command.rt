@@ -1,6 +1,6 @@
 //! The command `runc`: the objects of a unit, and the objects after each call of a file.
 ghost use Rattle.std.specs.Prelude.{IfOk, false};
-ghost use Rattle.cmd_work.specs.Command.{IsOwnFirst};
+ghost use Rattle.cmd_work.specs.TwoFiles.{IsOwnFirst};
 ghost use Rattle.cmd_runc.specs.Firsts.{IsRefusal};
 
 use crate::calls::Calls;
@@ -9,7 +9,9 @@ use base::NoMemory;
 use base_io::{Shelf, Sink};
 use c_reader::{CFault, read_c};
 use c_subset::CUnit;
-use cmd_work::{Command, First, Loaded, Status, Stop, answer_lines};
+use cmd_work::{
+    Command, First, Loaded, Status, Stop, TwoFiles, answer_lines, both_words, perform_two,
+};
 use std::alloc::Global;
 
 /// The most bytes that the text of a unit may have.
@@ -28,7 +30,7 @@ fn refused(alloc: Global, line: u32) -> Result<First<CUnit>, NoMemory>
 #[derive(Drop)]
 pub struct RunC;
 
-impl Command for RunC {
+impl TwoFiles for RunC {
     ghost use Rattle.cmd_runc.specs.declared.command.TheConstants.{C_LIMIT};
     ghost use Rattle.cmd_runc.specs.Runs.{RunCAnswers, RunsFile, ReachesCalls};
 
@@ -70,4 +72,22 @@ impl Command for RunC {
         let mut calls = Calls::new(alloc, base)?;
         answer_lines(&mut calls, alloc, name, shelf, out)
     }
+}
+
+impl Command for RunC {
+    ghost use Rattle.cmd_runc.specs.Offered.{asked_of};
+
+    ghost takes = { asked_of };
+
+    fn perform<S: Shelf, K: Sink>(
+        alloc: Global,
+        words: &[String],
+        shelf: &mut S,
+        out: &mut K,
+    ) -> Option<Result<Status, Stop>> {
+        let (name, second) = both_words("runc", words)?;
+        Some(perform_two(&RunC, alloc, name, second, shelf, out))
+    }
+
+    fn is_right() {}
 }

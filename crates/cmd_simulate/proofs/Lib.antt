@@ -4,3 +4,4 @@ pub mod Steps
 pub mod Run
 pub mod Front
 pub mod Files
+pub mod Offering

@@ -1,3 +1,4 @@
 pub mod Simulates
 pub mod Tells
 pub mod Laws
+pub mod Offered

@@ -5,8 +5,8 @@ ghost use Rattle.dd_store.specs.declared.store.TheConstants.{SPLIT_LIMIT};
 use crate::simulation::Simulation;
 use base::NoMemory;
 use base_io::{Shelf, Sink};
-use cmd_checked::check_file;
-use cmd_work::{Command, First, Loaded, Status, Stop, answer_lines};
+use cmd_checked::{check_file, two_checked};
+use cmd_work::{Command, First, Loaded, Status, Stop, TwoFiles, answer_lines, perform_two};
 use scr_depend::Checked;
 use scr_parse::TEXT_LIMIT;
 use std::alloc::Global;
@@ -18,7 +18,7 @@ pub struct Simulate {
     pub ghost limited: { limit ≤ SPLIT_LIMIT },
 }
 
-impl Command for Simulate {
+impl TwoFiles for Simulate {
     ghost use Rattle.scr_spec.specs.Shown.{data_of};
     ghost use Rattle.scr_parse.specs.declared.text.TheConstants.{TEXT_LIMIT};
     ghost use Rattle.cmd_checked.specs.Checking.{ReachesScript};
@@ -55,4 +55,23 @@ impl Command for Simulate {
         let mut simulation = Simulation::new(alloc, base)?;
         answer_lines(&mut simulation, alloc, name, shelf, out)
     }
+}
+
+impl Command for Simulate {
+    ghost use Rattle.cmd_simulate.specs.Offered.{asked_of};
+
+    ghost takes = { asked_of };
+
+    fn perform<S: Shelf, K: Sink>(
+        alloc: Global,
+        words: &[String],
+        shelf: &mut S,
+        out: &mut K,
+    ) -> Option<Result<Status, Stop>> {
+        let asked = two_checked("simulate", words)?;
+        let command = Simulate { limit: asked.limit };
+        Some(perform_two(&command, alloc, asked.name, asked.second, shelf, out))
+    }
+
+    fn is_right() {}
 }

@@ -1,5 +1,5 @@
 -- Files have one answer of `slice`, which is right.
-use Rattle.std.proofs.Common.{◌≡◌, ◌⊎◌, ℕ, List, [], Option, Some, refl, sym, ap, subst, ◌∙◌, inl, inr}
+use Rattle.std.proofs.Common.{◌≡◌, ℕ, List, [], Option, Some, refl, sym, ap, subst, ◌∙◌, inl, inr}
 use Rattle.std.proofs.Common.{Result, Ok, Err, Vec, Global}
 use Rattle.std.specs.Prelude.{IfOk}
 use Rattle.base.specs.declared.memory.NoMemory.{NoMemory}
@@ -17,7 +17,7 @@ use Rattle.cmd_work.specs.declared.status.Status.TheVariants.{Done, NameRefused}
 use Rattle.cmd_work.specs.declared.whole.Loaded.{Loaded}
 use Rattle.cmd_work.specs.Load.{IsLoaded}
 use Rattle.cmd_work.specs.Ends.{IsFront}
-use Rattle.cmd_work.proofs.CommandLemmas.{loaded_file}
+use Rattle.cmd_work.proofs.TwoFilesLemmas.{loaded_file}
 use Rattle.cmd_work.proofs.EndsLemmas.{by_file_once, by_file_some}
 use Rattle.cmd_checked.specs.declared.checking.Checking.TheVariants.{Passed}
 use Rattle.cmd_checked.specs.Reports.{ChecksText}

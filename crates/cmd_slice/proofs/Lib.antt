@@ -1,2 +1,4 @@
 pub mod Naming
 pub mod Files
+pub mod Offering
+pub mod Ranges

@@ -1,3 +1,4 @@
 pub mod Names
 pub mod Slicing
 pub mod Laws
+pub mod Offered

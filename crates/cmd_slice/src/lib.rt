@@ -4,6 +4,7 @@
 mod law;
 mod names;
 mod slicing;
+mod words;
 
 pub use law::one_slicing;
 pub use slicing::Slice;

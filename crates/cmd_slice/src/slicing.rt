@@ -7,19 +7,23 @@ ghost use Rattle.scr_slice.specs.Slices.{HoldsEach};
 ghost use Rattle.cmd_slice.specs.Slicing.{IsSliceText, SlicesSpec};
 
 use crate::names::{Selection, select};
+use crate::words::slice_words;
 use base::NoMemory;
+use base_io::{Shelf, Sink};
 use cmd_checked::{Checking, check_file};
-use cmd_work::{Job, Loaded, Status};
+use cmd_work::{Command, Loaded, OneFile, Status, Stop, perform_one};
 use scr_depend::Checked;
 use scr_parse::TEXT_LIMIT;
 use scr_roundtrip::canonical_text;
 use scr_slice::{kept, slice};
 use std::alloc::Global;
 
-/// The command `slice`, with the words that name variables, and the limit on the distinct splits of each
-/// table.
+/// The command `slice`.
+pub struct Slice;
+
+/// What is asked of it: the words that name variables, and the limit on the distinct splits of each table.
 #[derive(Drop)]
-pub struct Slice<'a> {
+pub(crate) struct Slicing<'a> {
     pub limit: u32,
     pub names: &'a [String],
     pub ghost limited: { limit ≤ SPLIT_LIMIT },
@@ -53,7 +57,7 @@ fn answer_for(
     }
 }
 
-impl<'a> Job for Slice<'a> {
+impl<'a> OneFile for Slicing<'a> {
     ghost use Rattle.std.specs.Prelude.{map, string_bytes};
     ghost use Rattle.scr_parse.specs.declared.text.TheConstants.{TEXT_LIMIT};
     ghost use Rattle.cmd_slice.specs.Slicing.{SlicesFile};
@@ -72,4 +76,22 @@ impl<'a> Job for Slice<'a> {
             Checking::Finished(report, status) => Ok((report, status)),
         }
     }
+}
+
+impl Command for Slice {
+    ghost use Rattle.cmd_slice.specs.Offered.{asked_of};
+
+    ghost takes = { asked_of };
+
+    fn perform<S: Shelf, K: Sink>(
+        alloc: Global,
+        words: &[String],
+        shelf: &mut S,
+        out: &mut K,
+    ) -> Option<Result<Status, Stop>> {
+        let asked = slice_words(words)?;
+        Some(perform_one(&asked.slice, alloc, asked.name, shelf, out))
+    }
+
+    fn is_right() {}
 }

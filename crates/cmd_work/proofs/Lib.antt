@@ -1,7 +1,9 @@
 pub mod EndsLemmas
 pub mod WalkLemmas
 pub mod FileLemmas
-pub mod CommandLemmas
+pub mod TwoFilesLemmas
 pub mod ClosingLemmas
 pub mod GatherLemmas
 pub mod StopsLemmas
+pub mod Numbers
+pub mod RunLemmas

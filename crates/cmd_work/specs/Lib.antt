@@ -3,6 +3,9 @@ pub mod Ends
 pub mod Load
 pub mod Session
 pub mod Walk
-pub mod Command
+pub mod TwoFiles
 pub mod Closing
 pub mod Stops
+pub mod Work
+pub mod Run
+pub mod Words

@@ -1,80 +1,90 @@
-//! The order of work of a command that reads one file whole and then goes through a second one line by line.
-ghost use Rattle.std.specs.Prelude.{◌≡◌, ◌<◌, ◌^◌, [], ℕ, Bool, List, Option, IfOk, IfErr, IfSome, IsErrOf, IsSome, IsTrue};
-ghost use Rattle.base_io.specs.Outside.{HasRisen, Holds};
-ghost use Rattle.cmd_work.specs.declared.status.Status.{Status};
-ghost use Rattle.cmd_work.specs.Ends.{Answered, Stopped, IsFront, is_own};
-ghost use Rattle.cmd_work.specs.Load.{IsLoaded};
-ghost use Rattle.cmd_work.specs.Command.{IsFirst, IsOwnFirst};
+//! A command: the words that it takes, and what it does for them.
+ghost use Rattle.std.specs.Prelude.{◌≡◌, List, ℕ, map, string_bytes};
+ghost use Rattle.cmd_work.specs.Work.{Asked, IsDone, IsPerformed, AreRight, at_once, by_one, by_two, between};
 
+use crate::no_file::{NoFile, respond_none};
+use crate::one_file::{OneFile, respond_one};
 use crate::status::{Status, Stop};
-use crate::whole::{Loaded, load, put};
-use base::NoMemory;
+use crate::two_files::{TwoFiles, respond_two};
 use base_io::{Shelf, Sink};
 use std::alloc::Global;
 
-/// What the first file makes of a command.
-#[derive(Drop)]
-pub enum First<B> {
-    /// The whole answer. The second file is not begun.
-    Answer(Vec<u8>, Status),
-    /// What the lines of the second file are answered by.
-    Base(B),
-}
-
-/// A command that reads one file whole and then goes through a second one line by line.
+/// A command of the program.
 pub trait Command {
-    type Base: Drop;
+    /// What words ask of it, where they have its form.
+    ghost takes: { List (List ℕ) → Asked };
 
-    /// The bytes and the status for the first and the second file, where they are there.
-    ghost answers: { Self → Option (List ℕ) → Option (List ℕ) → List ℕ → Status → Type 0 };
-
-    /// The second file is reached, by the first one.
-    ghost reaches: { Self → Option (List ℕ) → Type 0 };
-
-    /// The bytes and the status for the second file, if it is there.
-    ghost goes: { Self → Self.Base → Option (List ℕ) → List ℕ → Status → Type 0 };
-
-    /// The most bytes that the first file may have.
-    ghost most_bytes: { Self → ℕ };
-
-    /// Both files are read before a byte is written.
-    ghost reads_first: { Bool };
-
-    /// The most bytes of the first file. All files have an answer, those above it and those that are not there
-    /// included.
-    fn most_bytes(&self) -> usize
-        ensures exact { result ≡ most_bytes self.now }
-        ensures small { result < 2 ^ 32 }
-        ensures some_answer { (held second : Option (List ℕ)) → IsFront (answers self.now held second) [] };
-
-    /// What a first file makes of the command.
-    fn first(&self, alloc: Global, file: Loaded) -> Result<First<Self::Base>, NoMemory>
-        ensures exact { IfOk result (λ r. (held : Option (List ℕ)) → IsLoaded (most_bytes self.now) held file
-            → IsFirst (answers self.now held) (reaches self.now held) (goes self.now) r) }
-        ensures own { IfOk result IsOwnFirst };
-
-    /// Answers the second file, line by line or by one text.
-    fn go_on<S: Shelf, K: Sink>(
-        &self,
+    /// Does what the words ask, up to the first fault. `None`: they have another form, and nothing was done.
+    fn perform<S: Shelf, K: Sink>(
         alloc: Global,
-        base: &Self::Base,
-        name: &str,
+        words: &[String],
         shelf: &mut S,
         out: &mut K,
-    ) -> Result<Status, Stop>
-        ensures answered { IfOk result (Answered (S.contents shelf.old) (K.written out.old) (K.written out.new)
-            (λ files. goes self.now base.now (files name.now))) }
-        ensures stopped { IfErr result (Stopped (S.contents shelf.old) (K.written out.old) (K.written out.new)
-            (λ files. goes self.now base.now (files name.now))) }
-        ensures status { IfOk result (λ status. IsTrue (is_own status)) }
-        ensures nothing { IsTrue reads_first → IsErrOf result Stop.Read → K.written out.new ≡ K.written out.old }
-        ensures read_cause { IsErrOf result Stop.Read → HasRisen (S.faults shelf.old) (S.faults shelf.new) }
-        ensures write_cause { IsErrOf result Stop.Write → HasRisen (K.faults out.old) (K.faults out.new) }
-        ensures succeeds { S.steady shelf.old → Holds (S.contents shelf.old) name.now → ¬ IsErrOf result Stop.Read };
+    ) -> Option<Result<Status, Stop>>
+        ensures { IsPerformed (takes (map string_bytes words.now)) result ((shelf.new ≡ shelf.old) × (out.new ≡ out.old))
+            (between (S.contents shelf.old) (S.steady shelf.old) (S.faults shelf.old) (S.faults shelf.new)
+            (K.written out.old) (K.written out.new) (K.faults out.old) (K.faults out.new)) };
+
+    /// The law of its answers.
+    fn is_right()
+        ensures { AreRight takes };
 }
 
-/// Reads the first file whole. Where it gives no whole answer, the second file is gone through line by line.
-pub fn respond_by_lines<C: Command, S: Shelf, K: Sink>(
+/// Two commands: words that the first one does not take are for the second one.
+impl<A: Command, B: Command> Command for (A, B) {
+    ghost use Rattle.cmd_work.specs.Work.{or_else};
+
+    ghost takes = { λ words. or_else (A.takes words) (B.takes words) };
+
+    fn perform<S: Shelf, K: Sink>(
+        alloc: Global,
+        words: &[String],
+        shelf: &mut S,
+        out: &mut K,
+    ) -> Option<Result<Status, Stop>> {
+        match A::perform(alloc, words, shelf, out) {
+            Some(result) => Some(result),
+            None => B::perform(alloc, words, shelf, out),
+        }
+    }
+
+    fn is_right() {
+        A::is_right();
+        B::is_right();
+    }
+}
+
+/// Does the work of a command that begins no file.
+pub fn perform_none<J: NoFile, S: Shelf, K: Sink>(
+    job: &J,
+    alloc: Global,
+    shelf: &mut S,
+    out: &mut K,
+) -> Result<Status, Stop>
+    ensures { IsDone (between (S.contents shelf.old) (S.steady shelf.old) (S.faults shelf.old) (S.faults shelf.new)
+        (K.written out.old) (K.written out.new) (K.faults out.old) (K.faults out.new))
+        (at_once (J.answers job.now)) result }
+{
+    respond_none(job, alloc, out)
+}
+
+/// Does the work of a command that reads one file.
+pub fn perform_one<J: OneFile, S: Shelf, K: Sink>(
+    job: &J,
+    alloc: Global,
+    name: &str,
+    shelf: &mut S,
+    out: &mut K,
+) -> Result<Status, Stop>
+    ensures { IsDone (between (S.contents shelf.old) (S.steady shelf.old) (S.faults shelf.old) (S.faults shelf.new)
+        (K.written out.old) (K.written out.new) (K.faults out.old) (K.faults out.new))
+        (by_one name.now (J.answers job.now)) result }
+{
+    respond_one(job, alloc, name, shelf, out)
+}
+
+/// Does the work of a command that reads two files.
+pub fn perform_two<C: TwoFiles, S: Shelf, K: Sink>(
     command: &C,
     alloc: Global,
     name: &str,
@@ -82,25 +92,9 @@ pub fn respond_by_lines<C: Command, S: Shelf, K: Sink>(
     shelf: &mut S,
     out: &mut K,
 ) -> Result<Status, Stop>
-    ensures answered { IfOk result (Answered (S.contents shelf.old) (K.written out.old) (K.written out.new)
-        (λ files. C.answers command.now (files name.now) (files second.now))) }
-    ensures stopped { IfErr result (Stopped (S.contents shelf.old) (K.written out.old) (K.written out.new)
-        (λ files. C.answers command.now (files name.now) (files second.now))) }
-    ensures status { IfOk result (λ status. IsTrue (is_own status)) }
-    ensures nothing { IsTrue C.reads_first → IsErrOf result Stop.Read → K.written out.new ≡ K.written out.old }
-    ensures read_cause { IsErrOf result Stop.Read → HasRisen (S.faults shelf.old) (S.faults shelf.new) }
-    ensures write_cause { IsErrOf result Stop.Write → HasRisen (K.faults out.old) (K.faults out.new) }
-    ensures succeeds { S.steady shelf.old → Holds (S.contents shelf.old) name.now
-        → IfSome (S.contents shelf.old) (λ files. C.reaches command.now (files name.now) → IsSome (files second.now))
-        → ¬ IsErrOf result Stop.Read }
+    ensures { IsDone (between (S.contents shelf.old) (S.steady shelf.old) (S.faults shelf.old) (S.faults shelf.new)
+        (K.written out.old) (K.written out.new) (K.faults out.old) (K.faults out.new))
+        (by_two C.reads_first name.now second.now (C.answers command.now) (C.reaches command.now)) result }
 {
-    let file = load(alloc, shelf, name, command.most_bytes())?;
-    let first = command.first(alloc, file)?;
-    match first {
-        First::Answer(text, status) => {
-            put(out, text.as_slice())?;
-            Ok(status)
-        }
-        First::Base(base) => command.go_on(alloc, &base, second, shelf, out),
-    }
+    respond_two(command, alloc, name, second, shelf, out)
 }

@@ -1,5 +1,5 @@
-use Rattle.cli.proofs.OneAnswer.{one_answer}
+use Rattle.cli.specs.Commands.{usage_text}
 use Rattle.cli.proofs.top.one_answer.Goals as goal
 
 pub returns : goal.returns
-returns c = one_answer
+returns c = c.one_answer_of.ensures usage_text

@@ -1,5 +1,0 @@
-use Rattle.cli.proofs.Checked.{some_checks}
-use Rattle.cli.proofs.check.CheckJob.most_bytes.Goals as goal
-
-pub returns-clause-some_answer : goal.returns-clause-some_answer
-returns-clause-some_answer c = some_checks c.args.self.now.limit

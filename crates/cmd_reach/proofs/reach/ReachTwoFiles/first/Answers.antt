@@ -1,0 +1,10 @@
+use Rattle.cmd_checked.proofs.Scripts.{checked_first, own_first}
+use Rattle.cmd_reach.specs.Reaches.{ReachesFile}
+use Rattle.cmd_reach.proofs.reach.ReachTwoFiles.first.Goals as goal
+
+pub returns-clause-exact : goal.returns-clause-exact
+returns-clause-exact c =
+    rw c.into.ensures (checked_first (ReachesFile c.args.self.now.most) c.args.self.now.limit c.args.file _ c.in_ok-check_file.ensures.exact c.in_ok-check_file.ensures.ending)
+
+pub returns-clause-own : goal.returns-clause-own
+returns-clause-own c = rw c.into.ensures (own_first _ c.in_ok-check_file.ensures.ending)
