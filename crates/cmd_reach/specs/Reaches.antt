@@ -22,12 +22,12 @@ use Rattle.cmd_reach.specs.Texts.{answers_text, refused_text}
 -- a script breaks the assertion
 abbrev pub is_finding : Answer → Bool
 is_finding Never = false
-is_finding (Open depth) = false
+is_finding (Open way) = false
 is_finding (Least script) = true
 
 abbrev pub is_undecided : Answer → Bool
 is_undecided Never = false
-is_undecided (Open depth) = true
+is_undecided (Open way) = true
 is_undecided (Least script) = false
 
 -- where one is broken, or else open

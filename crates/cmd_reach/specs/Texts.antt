@@ -1,5 +1,5 @@
 -- The lines on assertions.
-use Rattle.std.specs.Prelude.{ℕ, List, [], ◌∷◌, ◌++◌, length, codes, decimal}
+use Rattle.std.specs.Prelude.{ℕ, ◌-◌, List, [], ◌∷◌, ◌++◌, length, codes, decimal}
 use Rattle.std.specs.List.{flat_map, zip}
 use Rattle.scr_spec.specs.Data.{Data}
 use Rattle.scr_spec.specs.declared.state.Input.{Input}
@@ -24,10 +24,10 @@ abbrev pub least_text : Data → List Input → List ℕ
 least_text spec [] = codes "initial\n"
 least_text spec (input ∷ script) = count_text (length (input ∷ script)) ++ flat_map (input_text spec) (input ∷ script)
 
--- what is said of an assertion
+-- what is said of an assertion. Where there is no room for a state to which the way leads, no script with fewer inputs breaks it.
 abbrev pub outcome_text : Data → Answer → List ℕ
 outcome_text spec Never = codes "never\n"
-outcome_text spec (Open depth) = codes "open " ++ count_text depth
+outcome_text spec (Open way) = codes "open " ++ count_text (length way - 1)
 outcome_text spec (Least script) = least_text spec script
 
 -- the lines on an assertion

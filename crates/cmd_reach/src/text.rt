@@ -61,9 +61,9 @@ fn push_outcome(out: &mut Vec<u8>, spec: &Spec, answer: &Answer) -> Result<(), N
             out.extend_from_slice(b"never\n")?;
             Ok(())
         }
-        Answer::Open(depth) => {
+        Answer::Open(way) => {
             out.extend_from_slice(b"open ")?;
-            push_count(out, *depth)
+            push_count(out, way.len().saturating_sub(1))
         }
         Answer::Least(script) => push_least(out, spec, script.as_slice()),
     }

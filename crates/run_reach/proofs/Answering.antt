@@ -19,7 +19,7 @@ use Rattle.run_reach.specs.Growth.{Grown, IsTriedTo, LeavesOut, Hits}
 use Rattle.run_reach.proofs.Order.{none_before_nil}
 use Rattle.run_reach.proofs.Ascending.{Ascends, ascends_front, lesser_before, inputs_ascend}
 use Rattle.run_reach.proofs.Broad.{IsUnderWay, begin, under_way, grown_broad}
-use Rattle.run_reach.proofs.Reach.{path_length, Covers, state_ends, before_numbers, ends_within, way_path, path_number, no_way, no_meeting, whole_covers, part_covers}
+use Rattle.run_reach.proofs.Reach.{Covers, state_ends, before_numbers, ends_within, way_path, path_number, no_way, no_meeting, whole_covers, part_covers}
 
 -- the last elements of equal lists are equal, and so are the rests
 same_last : {X : Type 0} (a b : List X) (x y : X) → a ++ x ∷ [] ≡ b ++ y ∷ [] → (a ≡ b) × (x ≡ y)
@@ -105,27 +105,27 @@ module _ (spec : Data) (sought : Sought) (most : ℕ) (order : Order) (passes : 
         )
 
     -- there is no room for a state that it leads to
-    module _ (after : Tree) (h : LeavesOut spec sought.at_step most n (codes_at tree n) tree after) (few : length after ≤ most) where
+    module _ (input : Input) (after : Tree) (h : LeavesOut spec sought.at_step most n (codes_at tree n) input tree after) (few : length after ≤ most) where
       abbrev end : List Input
-      end = path_of after n ++ h.input ∷ []
+      end = path_of after n ++ input ∷ []
 
       w : IsUnderWay spec sought.at_step n (codes_at tree n) h.tried.front after
-      w = way_on h.input after h.tried
+      w = way_on input after h.tried
 
-      c : Covers spec sought.at_step after (Before h.input after)
-      c = covers_on h.input after h.tried
+      c : Covers spec sought.at_step after (Before input after)
+      c = covers_on input after h.tried
 
       end_first : (other : List Input) → EndsIn spec other h.new → ComesBefore other end → ⊥
       end_first other e less =
-          let v = ends_within spec sought.at_step after (Before h.input after) c order passes h.new other less e in
+          let v = ends_within spec sought.at_step after (Before input after) c order passes h.new other less e in
           h.absent (record { number = v.number; within = v.there; same = v.same })
 
       end_way : IsFirstWay spec end
-      end_way = record { at = h.new; ends = end_ends h.input after h.new h.tried h.step; none_before = end_first }
+      end_way = record { at = h.new; ends = end_ends input after h.new h.tried h.step; none_before = end_first }
 
       none_to_end : (p : ℕ) → suc p ≡ length after → (other : List Input) → IsFirstWay spec other → ComesBefore (path_of after p) other → ComesBefore other end → ⊥
       none_to_end p last other way later before =
-          let o = way_path spec sought.at_step after (Before h.input after) c order passes other before way in
+          let o = way_path spec sought.at_step after (Before input after) c order passes other before way in
           let below : p < length after = omega (arith, last) in
           let behind = before_numbers spec sought.at_step after w.sorted p o.0 below (subst (ComesBefore (path_of after p)) (sym o.2) later) in
           let there = o.1 in
@@ -135,7 +135,7 @@ module _ (spec : Data) (sought : Sought) (most : ℕ) (order : Order) (passes : 
       end_number p last =
           let below : p < length after = omega (arith, last) in (
             path_of after p,
-            path_number spec sought.at_step after (Before h.input after) c order passes p below,
+            path_number spec sought.at_step after (Before input after) c order passes p below,
             record { way = end_way; later = c.paths p below; none_between = none_to_end p last },
           )
 
@@ -148,25 +148,21 @@ module _ (spec : Data) (sought : Sought) (most : ℕ) (order : Order) (passes : 
 
       -- it does not meet what is sought itself
       end_missed : Meets spec sought end → ⊥
-      end_missed (inl m) = let l = ap (λ (s : List Input). length s) m.none in omega (arith, l, length-append (path_of after n) (h.input ∷ []))
+      end_missed (inl m) = let l = ap (λ (s : List Input). length s) m.none in omega (arith, l, length-append (path_of after n) (input ∷ []))
       end_missed (inr m) =
-          let r = same_last (path_of after n) m.front h.input m.last m.whole in
+          let r = same_last (path_of after n) m.front input m.last m.whole in
           let mine = subst (EndsIn spec (path_of after n)) w.at (state_ends spec sought.at_step after w.sorted n w.there) in
           let one_old : m.old ≡ codes_at tree n = ends_one spec order passes (path_of after n) m.old (codes_at tree n) (subst (λ (s : List Input). EndsIn spec s m.old) (sym r.0) m.ends) mine in
-          let step : IsStep spec (codes_at tree n) h.input m.new =
+          let step : IsStep spec (codes_at tree n) input m.new =
           subst (λ (x : Input). IsStep spec (codes_at tree n) x m.new) (sym r.1) (subst (λ (a : Codes). IsStep spec a m.last m.new) one_old m.step) in
           let consistent = ends_consistent spec (path_of after n) (codes_at tree n) passes.sound mine in
-          let one_new : m.new ≡ h.new = one_next spec order (codes_at tree n) h.input m.new h.new passes consistent step h.step in
+          let one_new : m.new ≡ h.new = one_next spec order (codes_at tree n) input m.new h.new passes consistent step h.step in
           let met : sought.at_step (codes_at tree n) h.new ≡ true =
           subst (λ (a : Codes). sought.at_step (codes_at tree n) a ≡ true) one_new (subst (λ (a : Codes). sought.at_step a m.new ≡ true) one_old m.met) in
           both_ways (sought.at_step (codes_at tree n) h.new) h.missed met
 
-      pub open_answer : IsAnswer spec sought most (Open (depth_at after n))
-      open_answer = (
-        end,
-        record { way = end_most; itself = end_missed; none_before = none_meets h.input after h.tried },
-        length-append (path_of after n) (h.input ∷ []) ∙ ap (λ (d : ℕ). d + 1) (path_length (depth_at after n) after n),
-      )
+      pub open_answer : IsAnswer spec sought most (Open (path_of after n ++ input ∷ []))
+      open_answer = record { way = end_most; itself = end_missed; none_before = none_meets input after h.tried }
 
 -- ---- what a state that is expanded needs
 

@@ -15,7 +15,7 @@ use Rattle.run_reach.specs.declared.answer.Answer.{Answer}
 use Rattle.run_reach.specs.declared.answer.Answer.TheVariants.{Never, Open, Least}
 use Rattle.run_reach.specs.declared.turn.Turn.{Turn}
 use Rattle.run_reach.specs.declared.turn.Turn.TheVariants.{Expanded, Full, Hit}
-use Rattle.run_reach.specs.Trees.{Tree, root, codes_at, depth_at, path_of, child_of, has_codes}
+use Rattle.run_reach.specs.Trees.{Tree, root, codes_at, path_of, child_of, has_codes}
 use Rattle.run_reach.specs.Inputs.{inputs_of}
 use Rattle.run_reach.specs.Answers.{Sought, IsAnswer}
 use Rattle.run_reach.specs.Growth.{Keeps, Tries, none, more, IsTriedTo, Turns, Grown, first, expanded}
@@ -63,9 +63,9 @@ module _ (spec : Data) (sought : Sought) (most : ℕ) (order : Order) (passes : 
                           try_rest (front ++ x ∷ []) rest grown on may.1 (more x t (record { new = s.0; step = s.1; missed = missed; kept = keeps }))
                           (omega (arith, room, length-append after (child_of after n x s.0 ∷ [])))
                       | inr full ↦ record {
-                        turn = Full;
+                        turn = Full x;
                         after = after;
-                        turns = record { input = x; tried = tried; new = s.0; step = s.1; missed = missed; absent = not_stored after s.0 absent; full = full };
+                        turns = record { tried = tried; new = s.0; step = s.1; missed = missed; absent = not_stored after s.0 absent; full = full };
                         few = few;
                       }
                     ]
@@ -78,7 +78,7 @@ module _ (spec : Data) (sought : Sought) (most : ℕ) (order : Order) (passes : 
     after_turn : (n : ℕ) (tree : Tree) → Grown spec sought.at_step n tree → n < length tree → (turn : Turn) (after : Tree) → Turns spec sought.at_step most n (codes_at tree n) tree after turn
         → length after ≤ most → (Grown spec sought.at_step (n + 1) after → (a : Answer) × IsAnswer spec sought most a) → (a : Answer) × IsAnswer spec sought most a
     after_turn n tree g there Expanded after t few on = on (expanded g there t)
-    after_turn n tree g there Full after t few on = (Open (depth_at after n), open_answer spec sought most order passes at initial missed n tree g there after t few)
+    after_turn n tree g there (Full x) after t few on = (Open (path_of after n ++ x ∷ []), open_answer spec sought most order passes at initial missed n tree g there x after t few)
     after_turn n tree g there (Hit x) after t few on = (Least (path_of after n ++ x ∷ []), least_answer spec sought most order passes at initial missed n tree g there x after t few)
 
     go_on : (left n : ℕ) (tree : Tree) → Grown spec sought.at_step n tree → length tree ≤ most → most ≤ n + left → (a : Answer) × IsAnswer spec sought most a

@@ -55,10 +55,9 @@ module _ (spec : Data) (hit : Codes → Codes → Bool) (n : ℕ) (old : Codes) 
     one_hits i d tree after new below t s m = record { tried = tried_to i d tree after below t; new = new; step = s; met = m }
 
     pub one_left_out : (most i : ℕ) (d : Input) (tree between after : Tree) (new : Codes) → i < length listed → Tries spec hit n old (take i listed) tree between
-        → IsStep spec old (get_or listed i d) new → hit old new ≡ false → HasNoRoom between most new after → LeavesOut spec hit most n old tree after
+        → IsStep spec old (get_or listed i d) new → hit old new ≡ false → HasNoRoom between most new after → LeavesOut spec hit most n old (get_or listed i d) tree after
     one_left_out most i d tree between after new below t s m h =
-        subst (LeavesOut spec hit most n old tree) (sym h.same) (record {
-          input = get_or listed i d;
+        subst (LeavesOut spec hit most n old (get_or listed i d) tree) (sym h.same) (record {
           tried = tried_to i d tree between below t;
           new = new;
           step = s;

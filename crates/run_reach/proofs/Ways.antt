@@ -72,25 +72,24 @@ module _ (spec : Data) where
 
     pub one : (most : ℕ) (a b : Answer) → IsAnswer spec sought most a → IsAnswer spec sought most b → a ≡ b
     one most Never Never h g = refl
-    one most Never (Open e) h g = absurd (h.1 g.0 g.1.way)
+    one most Never (Open v) h g = absurd (h.1 v g.way)
     one most Never (Least t) h g = absurd (h.0 t g.0.meets)
-    one most (Open d) Never h g = absurd (g.1 h.0 h.1.way)
-    one most (Open d) (Open e) h g =
-        let same : h.0 ≡ g.0 = way_one most h.0 g.0 h.1.way g.1.way in
-        let long = ap (λ (s : List Input). length s) same in
-        let deep : d ≡ e = omega (arith, long, h.2, g.2) in
-        ap (λ (k : ℕ). Open k) deep
-    one most (Open d) (Least t) h g = absurd (open_least most h.0 t h.1 g.0 g.1)
+    one most (Open w) Never h g = absurd (g.1 w h.way)
+    one most (Open w) (Open v) h g = ap (λ (r : List Input). Open r) (way_one most w v h.way g.way)
+    one most (Open w) (Least t) h g = absurd (open_least most w t h g.0 g.1)
     one most (Least s) Never h g = absurd (g.0 s h.0.meets)
-    one most (Least s) (Open e) h g = absurd (open_least most g.0 s g.1 h.0 h.1)
+    one most (Least s) (Open v) h g = absurd (open_least most v s g h.0 h.1)
     one most (Least s) (Least t) h g = ap (λ (r : List Input). Least r) (least_one s t h.0 g.0)
 
-    pub no_fewer : (most depth : ℕ) (script : List Input) → IsAnswer spec sought most (Open depth) → Meets spec sought script → depth < length script
-    no_fewer most depth script h m =
-        elim (open_before most h.0 script h.1 m) [
-          | inl less ↦ omega (arith, less, h.2)
-          | inr same ↦ omega (arith, same.0, h.2)
-        ]
+    pub no_fewer : (most : ℕ) (way script : List Input) → IsAnswer spec sought most (Open way) → Meets spec sought script → ComesBefore way script × (length way ≤ length script)
+    no_fewer most way script h m =
+        let later = open_before most way script h m in (
+          later,
+          elim later [
+            | inl less ↦ omega (arith, less)
+            | inr same ↦ omega (arith, same.0)
+          ],
+        )
 
     pub never_on : (most more : ℕ) → most ≤ more → IsAnswer spec sought most Never → IsAnswer spec sought more Never
     never_on most more le h = (h.0, λ way w. let r = way_front most more way le w in h.1 r.0 r.1)

@@ -1,5 +1,5 @@
 -- What is sought in the runs of a specification, and what the answer to a search for it means.
-use Rattle.std.specs.Prelude.{◌≡◌, ◌⊎◌, ℕ, ◌+◌, Bool, true, List, [], ◌∷◌, ◌++◌, length}
+use Rattle.std.specs.Prelude.{◌≡◌, ◌⊎◌, ℕ, Bool, true, List, [], ◌∷◌, ◌++◌}
 use Rattle.scr_spec.specs.Data.{Data}
 use Rattle.scr_spec.specs.declared.state.Input.{Input}
 use Rattle.scr_spec.specs.Meaning.{Codes}
@@ -60,9 +60,9 @@ HasRoomUpTo spec most script = (way : List Input) → IsWayTo spec most way → 
 abbrev pub HasRoom : Data → ℕ → Type 0
 HasRoom spec most = (way : List Input) → IsWayTo spec most way → ⊥
 
--- no script meets what is sought; or this is the least one; or no script of up to so many inputs does, and by one more there is a state for
--- which there is no room
+-- no script meets what is sought; or this is the least one; or by this script there is a state for which there is no room, and neither it nor
+-- a script before it meets what is sought
 abbrev pub IsAnswer : Data → Sought → ℕ → Answer → Type 0
 IsAnswer spec sought most Never = NoneMeets spec sought × HasRoom spec most
-IsAnswer spec sought most (Open depth) = (script : List Input) × IsOpenAt spec sought most script × (length script ≡ depth + 1)
+IsAnswer spec sought most (Open script) = IsOpenAt spec sought most script
 IsAnswer spec sought most (Least script) = IsLeast spec sought script × HasRoomUpTo spec most script

@@ -47,8 +47,7 @@ pub record IsTriedTo (spec : Data) (hit : Codes → Codes → Bool) (n : ℕ) (o
   pub tries : Tries spec hit n old front tree after
 
 -- there is no room for the state to which this input leads
-pub record LeavesOut (spec : Data) (hit : Codes → Codes → Bool) (most n : ℕ) (old : Codes) (tree after : Tree) : Type 0 where
-  pub input : Input
+pub record LeavesOut (spec : Data) (hit : Codes → Codes → Bool) (most n : ℕ) (old : Codes) (input : Input) (tree after : Tree) : Type 0 where
   pub tried : IsTriedTo spec hit n old input tree after
   pub new : Codes
   pub step : IsStep spec old input new
@@ -65,7 +64,7 @@ pub record Hits (spec : Data) (hit : Codes → Codes → Bool) (n : ℕ) (old : 
 
 abbrev pub Turns : Data → (Codes → Codes → Bool) → ℕ → ℕ → Codes → Tree → Tree → Turn → Type 0
 Turns spec hit most n old tree after Expanded = Tries spec hit n old (inputs_of spec old) tree after
-Turns spec hit most n old tree after Full = LeavesOut spec hit most n old tree after
+Turns spec hit most n old tree after (Full input) = LeavesOut spec hit most n old input tree after
 Turns spec hit most n old tree after (Hit input) = Hits spec hit n old input tree after
 
 -- ---- one state

@@ -19,9 +19,9 @@ pub record OneOrder : Type 0 where
 pub record OneAnswer : Type 0 where
   pub some : (spec : Data) (sought : Sought) (most : ℕ) (order : Order) → PassesChecks spec order → 0 < most → (a : Answer) × IsAnswer spec sought most a
   pub one : (spec : Data) (sought : Sought) (most : ℕ) (a b : Answer) → IsAnswer spec sought most a → IsAnswer spec sought most b → a ≡ b
-  -- where it is open, what is sought needs more inputs
-  pub no_fewer : (spec : Data) (sought : Sought) (most depth : ℕ) (script : List Input) → IsAnswer spec sought most (Open depth) → Meets spec sought script
-      → depth < length script
+  -- where it is open, what is sought comes behind, and needs no fewer inputs
+  pub no_fewer : (spec : Data) (sought : Sought) (most : ℕ) (way script : List Input) → IsAnswer spec sought most (Open way) → Meets spec sought script
+      → ComesBefore way script × (length way ≤ length script)
   -- an answer that is not open is the same with more room
   pub never : (spec : Data) (sought : Sought) (most more : ℕ) → most ≤ more → IsAnswer spec sought most Never → IsAnswer spec sought more Never
   pub least : (spec : Data) (sought : Sought) (most more : ℕ) (script : List Input) → most ≤ more → IsAnswer spec sought most (Least script) → IsAnswer spec sought more (Least script)

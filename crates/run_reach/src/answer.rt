@@ -8,8 +8,8 @@ use sqlite_items::Items;
 pub enum Answer {
     /// No script meets what is sought.
     Never,
-    /// No script of up to so many inputs does, and there is no room for a state that one more leads to.
-    Open(usize),
+    /// Neither this script does nor one before it, and there is no room for the state that it leads to.
+    Open(Items<Input>),
     /// The least script that does.
     Least(Items<Input>),
 }

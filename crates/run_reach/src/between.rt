@@ -14,7 +14,7 @@ use scr_spec::{Cond, Spec, State};
 /// in the new.
 #[cycle(holds)]
 #[tactic(auto, using(crate::proofs::TruthBetween::between_laws, scr_spec::proofs::Laws::cond_laws, scr_spec::specs::declared::cond::Cond::TheViews::the_lemmas))]
-pub(crate) fn cond_holds_between(spec: &Spec, c: &Cond, old: &State, new: &State) -> bool
+pub fn cond_holds_between(spec: &Spec, c: &Cond, old: &State, new: &State) -> bool
     requires old_typed { IsTyped (data_of spec.now) old.now.codes }
     requires new_typed { IsTyped (data_of spec.now) new.now.codes }
     requires over { IsTrue (is_cond_over (data_of spec.now) c.now) }

@@ -126,7 +126,7 @@ fn push_at(inputs: &mut Items<Input>, spec: &Spec, at: &State, v: usize) -> Resu
 
 /// The inputs that may come in a state: the monitored variables in order of declaration, and for each its
 /// values, ascending.
-pub(crate) fn inputs_of(alloc: Global, spec: &Spec, at: &State) -> Result<Items<Input>, NoMemory>
+pub fn inputs_of(alloc: Global, spec: &Spec, at: &State) -> Result<Items<Input>, NoMemory>
     requires { IsTyped (data_of spec.now) at.now.codes }
     ensures { IfOk result (λ inputs. inputs ≡ listed.inputs_of (data_of spec.now) at.now.codes) }
 {

@@ -13,6 +13,8 @@ mod tree;
 mod turn;
 
 pub use answer::Answer;
+pub use between::cond_holds_between;
+pub use inputs::inputs_of;
 pub use law::{limit_of_states, one_answer, one_order};
 pub use search::{STATE_LIMIT, seek};
 pub use target::{CellHolds, IsBroken, Target};

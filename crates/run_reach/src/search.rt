@@ -49,7 +49,9 @@ fn seek_from<T: Target>(
     while number < tree.len() {
         match expand(alloc, checked, target, &mut tree, most, number)? {
             Turn::Expanded => number += 1,
-            Turn::Full => return Ok(Answer::Open(tree.link(number).depth)),
+            Turn::Full(input) => {
+                return Ok(Answer::Open(path_on(alloc, &tree, number, input)?));
+            }
             Turn::Hit(input) => {
                 return Ok(Answer::Least(path_on(alloc, &tree, number, input)?));
             }

@@ -19,8 +19,8 @@ use std::alloc::Global;
 pub(crate) enum Turn {
     /// All its inputs were tried.
     Expanded,
-    /// There is no room for a state that an input leads to.
-    Full,
+    /// There is no room for the state that this input leads to.
+    Full(Input),
     /// The step of this input is sought, and none before it is.
     Hit(Input),
 }
@@ -88,7 +88,7 @@ pub(crate) fn expand<T: Target>(
             return Ok(Turn::Hit(*input));
         }
         if !put_child(alloc, tree, most, number, *input, &new)? {
-            return Ok(Turn::Full);
+            return Ok(Turn::Full(*input));
         }
     }
     Ok(Turn::Expanded)

@@ -1,11 +1,10 @@
-use Rattle.std.proofs.Common.{◌≡◌, ℕ, ◌<◌, ◌≤◌, List, length, sym, ap, subst, arith}
+use Rattle.std.proofs.Common.{◌<◌, ◌≤◌, List, length, sym, ap, subst, arith}
 use Rattle.scr_spec.specs.Shown.{data_of}
 use Rattle.scr_spec.specs.declared.state.Input.{Input}
 use Rattle.scr_depend.specs.declared.checked.Checked.{Checked}
 use Rattle.scr_depend.specs.Passes.{PassesChecks}
 use Rattle.run_reach.specs.declared.answer.Answer.TheVariants.{Open, Least}
-use Rattle.run_reach.specs.declared.tree.Link.{Link}
-use Rattle.run_reach.specs.Trees.{Tree, codes_at, depth_at}
+use Rattle.run_reach.specs.Trees.{Tree, codes_at}
 use Rattle.run_reach.specs.Answers.{IsAnswer}
 use Rattle.run_reach.specs.Growth.{Turns, expanded}
 use Rattle.run_reach.proofs.Answering.{next_shallow, next_consistent, root_grown, never_answer, open_answer, least_answer}
@@ -51,10 +50,9 @@ returns-in-Full g c =
     let spec = data_of k.spec in
     let sought = g.T.Target.sought c.args.target.now spec in
     let there : c.loop-number.number < length c.loop-number.tree = omega (arith, c.loop-number-test.true, c.len.ensures.count) in
-    let deep : depth_at c.expand.new.tree c.loop-number.number ≡ c.link.result.depth = ap (λ (l : Link). l.depth) (sym c.link.ensures) in
-    subst (λ (d : ℕ). IsAnswer spec sought c.args.most (Open d)) deep
+    subst (λ (s : List Input). IsAnswer spec sought c.args.most (Open s)) (sym c.in_ok-path_on-in-Full.ensures)
     (open_answer spec sought c.args.most k.order (passes k) c.args.first.now.codes c.requires.initial c.requires.missed c.loop-number.number c.loop-number.tree c.loop-number.invariant.grown there
-    c.expand.new.tree
+    c.in-Full.input c.expand.new.tree
     (subst (Turns spec sought.at_step c.args.most c.loop-number.number (codes_at c.loop-number.tree c.loop-number.number) c.loop-number.tree c.expand.new.tree) c.in-Full.is c.in_ok-expand.ensures.turn) c.in_ok-expand.ensures.few)
 
 pub returns-in-Hit : goal.returns-in-Hit
