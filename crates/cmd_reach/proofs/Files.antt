@@ -1,10 +1,12 @@
 -- Files have one answer of `reach`, and what is written is so.
 use Rattle.std.proofs.Common.{◌≡◌, ℕ, zero, suc, ◌+◌, ◌<◌, Bool, true, false, List, [], ◌∷◌, ◌++◌, get_or, take, Option, Some, refl, sym, ap, ap₂, subst, ◌∙◌, inl, inr, length, Result, Ok, Err, Vec, Global}
 use Rattle.std.specs.Prelude.{IfOk, slice_get, if◌then◌else◌}
-use Rattle.std.specs.List.{list_any}
+use Rattle.std.specs.List.{list_all, list_any}
+use Rattle.std.proofs.lemmas.Bool.{and_parts}
 use Rattle.std.proofs.lemmas.List.{take_more}
 use Rattle.base.specs.declared.memory.NoMemory.{NoMemory}
 use Rattle.scr_spec.specs.Data.{Data}
+use Rattle.scr_spec.specs.Over.{is_cond_over}
 use Rattle.scr_parse.specs.declared.text.TheConstants.{TEXT_LIMIT}
 use Rattle.scr_parse.specs.declared.place.TextKind.TheVariants.{Limit}
 use Rattle.scr_resolve.specs.Texts.{unread}
@@ -23,12 +25,13 @@ use Rattle.cmd_checked.proofs.Checks.{one_checking, passes_checks}
 use Rattle.cmd_checked.proofs.First.{first_once, first_some}
 use Rattle.scr_resolve_asserts.specs.declared.assertion.Assertion.{Assertion}
 use Rattle.scr_resolve_asserts.specs.Texts.{AssertionsOf}
-use Rattle.scr_resolve_asserts.proofs.Readings.{one_reading}
+use Rattle.scr_resolve_asserts.proofs.Readings.{one_reading, resolved_are_over}
 use Rattle.run_reach.specs.declared.answer.Answer.{Answer}
 use Rattle.run_reach.specs.declared.answer.Answer.TheVariants.{Never, Open, Least}
-use Rattle.run_reach.specs.Answers.{NoneMeets, IsAnswer}
+use Rattle.run_reach.specs.Answers.{NoneMeets}
 use Rattle.run_reach.specs.Targets.{broken_by}
-use Rattle.run_reach.proofs.Existing as search
+use Rattle.run_broken.specs.Breaks.{IsBreak}
+use Rattle.run_broken.proofs.Answers.{one_break}
 use Rattle.cmd_reach.specs.Texts.{answers_text, refused_text}
 use Rattle.cmd_reach.specs.Reaches.{is_finding, is_undecided, answers_status, AreAnswers, ReachesEach, ReachesText, searched, refused, ReachesFile, ReachAnswers}
 use Rattle.cmd_reach.specs.Laws.{TellsReach, AreNeverBroken, OneReach}
@@ -42,25 +45,25 @@ are_once spec most [] (v ∷ vs) ws h g = absurd h
 are_once spec most (a ∷ more) [] ws h g = absurd h
 are_once spec most (a ∷ more) (v ∷ vs) [] h g = absurd g
 are_once spec most (a ∷ more) (v ∷ vs) (w ∷ ws) h g =
-    ap₂ (λ (x : Answer) (xs : List Answer). x ∷ xs) (search.one_answer.one spec (broken_by spec a.two a.cond) most v w h.0 g.0) (are_once spec most more vs ws h.1 g.1)
+    ap₂ (λ (x : Answer) (xs : List Answer). x ∷ xs) (one_break.one spec a.two a.cond most v w h.0 g.0) (are_once spec most more vs ws h.1 g.1)
 
-are_some : (spec : Data) (most : ℕ) (order : Order) → PassesChecks spec order → 0 < most → (assertions : List Assertion) → (vs : List Answer) × AreAnswers spec most assertions vs
-are_some spec most order k some [] = ([], tt)
-are_some spec most order k some (a ∷ more) =
-    let v = search.one_answer.some spec (broken_by spec a.two a.cond) most order k some in
-    let vs = are_some spec most order k some more in
-    (v.0 ∷ vs.0, (v.1, vs.1))
+are_some : (spec : Data) (most : ℕ) (order : Order) → PassesChecks spec order → 0 < most → (assertions : List Assertion) → list_all (λ a. is_cond_over spec a.cond) assertions ≡ true
+    → ((vs : List Answer) → AreAnswers spec most assertions vs → ⊥) → ⊥
+are_some spec most order k some [] over none = none [] tt
+are_some spec most order k some (a ∷ more) over none =
+    let both = and_parts (is_cond_over spec a.cond) (list_all (λ b. is_cond_over spec b.cond) more) over in
+    one_break.some spec a.two a.cond most order k both.0 some (λ v own. are_some spec most order k some more both.1 (λ vs rest. none (v ∷ vs) (own, rest)))
 
 -- a search more
 answer_more : (spec : Data) (most : ℕ) (assertions : List Assertion) (vs : List Answer) (a : Assertion) (v : Answer) → AreAnswers spec most assertions vs
-    → IsAnswer spec (broken_by spec a.two a.cond) most v → AreAnswers spec most (assertions ++ a ∷ []) (vs ++ v ∷ [])
+    → IsBreak spec a.two a.cond most v → AreAnswers spec most (assertions ++ a ∷ []) (vs ++ v ∷ [])
 answer_more spec most [] [] a v h g = (g, tt)
 answer_more spec most [] (w ∷ vs) a v h g = absurd h
 answer_more spec most (b ∷ bs) [] a v h g = absurd h
 answer_more spec most (b ∷ bs) (w ∷ vs) a v h g = (h.0, answer_more spec most bs vs a v h.1 g)
 
 pub each_more : (spec : Data) (most : ℕ) (assertions : List Assertion) (i : ℕ) (vs after : List Answer) (a : Assertion) (v : Answer) → i < length assertions → a ≡ get_or assertions i a
-    → AreAnswers spec most (take i assertions) vs → IsAnswer spec (broken_by spec a.two a.cond) most v → after ≡ vs ++ v ∷ [] → AreAnswers spec most (take (i + 1) assertions) after
+    → AreAnswers spec most (take i assertions) vs → IsBreak spec a.two a.cond most v → after ≡ vs ++ v ∷ [] → AreAnswers spec most (take (i + 1) assertions) after
 each_more spec most assertions i vs after a v within is h g e =
     let longer : take i assertions ++ a ∷ [] ≡ take (i + 1) assertions = ap (λ y. take i assertions ++ y ∷ []) is ∙ sym (take_more assertions i a within) in
     subst (λ (xs : List Assertion). AreAnswers spec most xs after) longer
@@ -89,9 +92,10 @@ module _ (most : ℕ) (spec : Data) where
     text_some text none =
         one_reading.some text spec
         (λ assertions makes.
-        let vs = are_some spec most order k some assertions in
-        let each : ReachesEach most spec assertions (answers_text spec assertions vs.0) (answers_status vs.0) = record { answers = vs.0; searched = vs.1; text = refl; ending = refl } in
-        none (answers_text spec assertions vs.0) (answers_status vs.0) (searched assertions makes each))
+        are_some spec most order k some assertions (resolved_are_over.over text spec assertions makes)
+        (λ vs own.
+        let each : ReachesEach most spec assertions (answers_text spec assertions vs) (answers_status vs) = record { answers = vs; searched = own; text = refl; ending = refl } in
+        none (answers_text spec assertions vs) (answers_status vs) (searched assertions makes each)))
         (λ refusal is. none (refused_text refusal) AssertRefused (refused (record { refusal = refusal; refused = is; line_is = refl }) refl))
 
     pub second_some : (second : Option (List ℕ)) → IsFront (ReachesFile most spec second) []

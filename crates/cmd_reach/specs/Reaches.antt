@@ -7,8 +7,7 @@ use Rattle.scr_resolve_asserts.specs.declared.assertion.Assertion.{Assertion}
 use Rattle.scr_resolve_asserts.specs.Texts.{AssertionsOf, IsAssertionRefusal}
 use Rattle.run_reach.specs.declared.answer.Answer.{Answer}
 use Rattle.run_reach.specs.declared.answer.Answer.TheVariants.{Never, Open, Least}
-use Rattle.run_reach.specs.Answers.{IsAnswer}
-use Rattle.run_reach.specs.Targets.{broken_by}
+use Rattle.run_broken.specs.Breaks.{IsBreak}
 use Rattle.cmd_work.specs.declared.status.Status.{Status}
 use Rattle.cmd_work.specs.declared.status.Status.TheVariants.{Done, Findings, Undecided, AssertRefused}
 use Rattle.cmd_work.specs.Ends.{ByFile}
@@ -54,7 +53,7 @@ abbrev pub AreAnswers : Data → ℕ → List Assertion → List Answer → Type
 AreAnswers spec most [] [] = Unit {0}
 AreAnswers spec most [] (answer ∷ answers) = ⊥
 AreAnswers spec most (a ∷ assertions) [] = ⊥
-AreAnswers spec most (a ∷ assertions) (answer ∷ answers) = IsAnswer spec (broken_by spec a.two a.cond) most answer × AreAnswers spec most assertions answers
+AreAnswers spec most (a ∷ assertions) (answer ∷ answers) = IsBreak spec a.two a.cond most answer × AreAnswers spec most assertions answers
 
 -- the lines on each of these assertions
 pub record ReachesEach (most : ℕ) (spec : Data) (assertions : List Assertion) (bytes : List ℕ) (status : Status) : Type 0 where

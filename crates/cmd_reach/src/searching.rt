@@ -4,15 +4,15 @@ ghost use Rattle.std.specs.List.{list_any, list_all};
 ghost use Rattle.scr_spec.specs.Shown.{data_of};
 ghost use Rattle.scr_spec.specs.Over.{is_cond_over};
 ghost use Rattle.cmd_work.specs.Ends.{is_own};
-ghost use Rattle.run_reach.specs.Answers.{IsAnswer};
-ghost use Rattle.run_reach.specs.Targets.{broken_by};
+ghost use Rattle.run_broken.specs.Breaks.{IsBreak};
 ghost use Rattle.cmd_reach.specs.Reaches as reaches;
 
 use crate::reading::{Reading, read};
 use crate::text::push_answers;
 use base::NoMemory;
 use cmd_work::Status;
-use run_reach::{Answer, IsBroken, seek};
+use run_broken::seek_break;
+use run_reach::Answer;
 use scr_depend::Checked;
 use scr_resolve_asserts::Assertion;
 use sqlite_items::Items;
@@ -71,13 +71,9 @@ fn search_one(
 ) -> Result<Answer, NoMemory>
     requires over { IsTrue (is_cond_over (data_of checked.now.spec) assertion.now.cond) }
     requires some { 0 < most }
-    ensures { IfOk result (IsAnswer (data_of checked.now.spec) (broken_by (data_of checked.now.spec) assertion.now.two assertion.now.cond) most) }
+    ensures { IfOk result (IsBreak (data_of checked.now.spec) assertion.now.two assertion.now.cond most) }
 {
-    let broken = IsBroken {
-        cond: &assertion.cond,
-        two: assertion.two,
-    };
-    seek(alloc, checked, &broken, most)
+    seek_break(alloc, checked, &assertion.cond, assertion.two, most)
 }
 
 /// Searches for each of the assertions.

@@ -34,10 +34,10 @@ fn side_mentions(e: &Expr, w: usize) -> bool
         .any(|item| operand_mentions(item.operand, w))
 }
 
-/// Whether the condition mentions the variable.
+/// Whether the condition mentions the variable, primed or not.
 #[cycle(mentions)]
 #[tactic(auto, using(crate::proofs::Joined::mentions_laws, scr_spec::specs::declared::cond::Cond::TheViews::the_lemmas))]
-fn cond_mentions(c: &Cond, w: usize) -> bool
+pub fn cond_mentions(c: &Cond, w: usize) -> bool
     ensures { result ≡ cond_mentions w c.now }
 {
     match c {

@@ -65,9 +65,10 @@ fn side(alloc: Global, keep: &[usize], old: &Expr) -> Result<Expr, NoMemory>
     Ok(Expr { items })
 }
 
+/// The condition with the places of its variables among the kept ones. The only error is want of memory.
 #[cycle(condition)]
 #[tactic(auto, using(crate::proofs::Joined::with_laws, scr_spec::specs::declared::cond::Cond::TheViews::the_lemmas))]
-fn condition(alloc: Global, keep: &[usize], c: &Cond) -> Result<Cond, NoMemory>
+pub fn condition(alloc: Global, keep: &[usize], c: &Cond) -> Result<Cond, NoMemory>
     ensures { IfOk result (λ new. new ≡ cond_with (number_in keep.now) c.now) }
 {
     match c {

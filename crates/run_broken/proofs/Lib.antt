@@ -1,0 +1,11 @@
+pub mod Ends
+pub mod Projected
+pub mod Ordered
+pub mod Apart
+pub mod Mentioned
+pub mod Truths
+pub mod Dropped
+pub mod Meeting
+pub mod Answers
+pub mod Pieces
+pub mod Told

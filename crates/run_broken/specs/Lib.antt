@@ -1,0 +1,7 @@
+pub mod Slices
+pub mod Breaks
+pub mod Orders
+pub mod Dropped
+pub mod Joins
+pub mod Pieces
+pub mod Laws
