@@ -7,6 +7,8 @@ mod reach;
 mod reading;
 mod searching;
 mod text;
+mod words;
 
 pub use law::one_reach;
 pub use reach::Reach;
+pub use words::STATES;

@@ -5,10 +5,12 @@ ghost use Rattle.run_reach.specs.declared.search.TheConstants.{STATE_LIMIT};
 
 use crate::reading::unread_line;
 use crate::searching::reach_text;
+use crate::words::search_words;
 use base::NoMemory;
 use base_io::{Shelf, Sink};
 use cmd_checked::check_file;
-use cmd_work::{First, Loaded, OneFile, Status, Stop, TwoFiles, respond_one};
+use cmd_work::{Command, First, Loaded, OneFile, Status, Stop, TwoFiles, perform_two, respond_one};
+use dd_store::SPLIT_LIMIT;
 use scr_depend::Checked;
 use scr_parse::{TEXT_LIMIT, TextKind};
 use std::alloc::Global;
@@ -96,4 +98,26 @@ impl TwoFiles for Reach {
         };
         respond_one(&job, alloc, name, shelf, out)
     }
+}
+
+impl Command for Reach {
+    ghost use Rattle.cmd_reach.specs.Offered.{asked_of};
+
+    ghost takes = { asked_of };
+
+    fn perform<S: Shelf, K: Sink>(
+        alloc: Global,
+        words: &[String],
+        shelf: &mut S,
+        out: &mut K,
+    ) -> Option<Result<Status, Stop>> {
+        let asked = search_words(words)?;
+        let command = Reach {
+            limit: SPLIT_LIMIT,
+            most: asked.most,
+        };
+        Some(perform_two(&command, alloc, asked.name, asked.second, shelf, out))
+    }
+
+    fn is_right() {}
 }
