@@ -4,9 +4,12 @@ use Rattle.dd_store.specs.declared.store.TheConstants.{SPLIT_LIMIT}
 use Rattle.scr_spec.specs.Data.{Data}
 use Rattle.scr_resolve_asserts.specs.declared.assertion.Assertion.{Assertion}
 use Rattle.scr_resolve_asserts.specs.Texts.{AssertionsOf}
+use Rattle.scr_depend.specs.Dependencies.{graph_of}
+use Rattle.scr_depend.specs.Orders.{IsOrder}
+use Rattle.prove_asserts.specs.declared.lemma.Lemma.{Lemma}
+use Rattle.prove_asserts.specs.Derived.{AreDerivedLemmas}
 use Rattle.run_reach.specs.declared.answer.Answer.TheVariants.{Never}
 use Rattle.run_reach.specs.declared.search.TheConstants.{STATE_LIMIT}
-use Rattle.run_broken.specs.Breaks.{IsBreak}
 use Rattle.cmd_work.specs.declared.status.Status.{Status}
 use Rattle.cmd_work.specs.declared.status.Status.TheVariants.{Done, Findings, Undecided, AssertRefused}
 use Rattle.cmd_work.specs.Words.{behind, number_in}
@@ -14,7 +17,7 @@ use Rattle.cmd_work.specs.Work.{Task, by_two, Asked, asked_by}
 use Rattle.cmd_checked.specs.Checking.{ReachesScript}
 use Rattle.cmd_checked.specs.Offered.{IsThereWith, PassesWith}
 use Rattle.cmd_reach.specs.declared.words.TheConstants.{STATES}
-use Rattle.cmd_reach.specs.Reaches.{ReachAnswers}
+use Rattle.cmd_reach.specs.Reaches.{IsAnswerTo, ReachAnswers}
 
 -- ---- words
 
@@ -33,11 +36,15 @@ names_and_states (Some (name ∷ second ∷ words)) = option_map (λ most. (name
 
 -- ---- the task
 
--- no run breaks an assertion that the text makes, and there is room for all states
+-- of each assertion that the text makes it is answered that no run breaks it
 pub record AreAllNever (most : ℕ) (spec : Data) (text : List ℕ) : Type 0 where
   pub assertions : List Assertion
   pub spells : AssertionsOf text spec assertions
-  pub each : (i : ℕ) (a : Assertion) → slice_get assertions i ≡ Some a → IsBreak spec a.two a.cond most Never
+  pub order : List ℕ
+  pub ordered : IsOrder (graph_of spec) order
+  pub lemmas : List Lemma
+  pub derived : AreDerivedLemmas spec order SPLIT_LIMIT lemmas
+  pub each : (i : ℕ) (a : Assertion) → slice_get assertions i ≡ Some a → IsAnswerTo spec order lemmas most a Never
 
 -- both files are there, the first one passes its checks, and so it is of the second one
 abbrev pub AreUnbroken : ℕ → Option (List ℕ) → Option (List ℕ) → Type 0

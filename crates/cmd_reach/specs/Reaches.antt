@@ -1,10 +1,18 @@
 -- What `reach` answers.
 use Rattle.std.specs.Prelude.{◌≡◌, ℕ, Bool, true, false, List, [], ◌∷◌, Option, if◌then◌else◌}
 use Rattle.std.specs.List.{list_any}
+use Rattle.dd_store.specs.declared.store.TheConstants.{SPLIT_LIMIT}
 use Rattle.scr_spec.specs.Data.{Data}
+use Rattle.scr_depend.specs.Dependencies.{graph_of}
+use Rattle.scr_depend.specs.Orders.{IsOrder}
 use Rattle.scr_resolve.specs.Texts.{Refusal}
 use Rattle.scr_resolve_asserts.specs.declared.assertion.Assertion.{Assertion}
 use Rattle.scr_resolve_asserts.specs.Texts.{AssertionsOf, IsAssertionRefusal}
+use Rattle.prove_asserts.specs.declared.lemma.Lemma.{Lemma}
+use Rattle.prove_asserts.specs.declared.verdict.AssertVerdict.{AssertVerdict}
+use Rattle.prove_asserts.specs.declared.verdict.AssertVerdict.TheVariants as verdict
+use Rattle.prove_asserts.specs.Derived.{AreDerivedLemmas}
+use Rattle.prove_asserts.specs.Judged.{IsJudged}
 use Rattle.run_reach.specs.declared.answer.Answer.{Answer}
 use Rattle.run_reach.specs.declared.answer.Answer.TheVariants.{Never, Open, Least}
 use Rattle.run_broken.specs.Breaks.{IsBreak}
@@ -48,17 +56,35 @@ IsReading text spec (Refused line) = IsRefusedWith text spec line.items
 
 -- ---- over a specification that passes
 
--- each is the answer to a search for what breaks its assertion
-abbrev pub AreAnswers : Data → ℕ → List Assertion → List Answer → Type 0
-AreAnswers spec most [] [] = Unit {0}
-AreAnswers spec most [] (answer ∷ answers) = ⊥
-AreAnswers spec most (a ∷ assertions) [] = ⊥
-AreAnswers spec most (a ∷ assertions) (answer ∷ answers) = IsBreak spec a.two a.cond most answer × AreAnswers spec most assertions answers
+-- the verdict of `assert`
+abbrev pub is_proved : AssertVerdict → Bool
+is_proved verdict.Yes = true
+is_proved verdict.FalseInitial = false
+is_proved (verdict.Unproved w) = false
+is_proved verdict.Undecided = false
 
--- the lines on each of these assertions
+-- what is answered of an assertion: that no run breaks it, where it is proved with what is taken for granted, as `assert` proves it with the
+-- largest limit; and else what a search for what breaks it finds
+pub data IsAnswerTo (spec : Data) (order : List ℕ) (lemmas : List Lemma) (most : ℕ) (a : Assertion) : Answer → Type 0 where
+  proved : (verdict : AssertVerdict) → IsJudged spec order lemmas SPLIT_LIMIT a verdict → is_proved verdict ≡ true → IsAnswerTo spec order lemmas most a Never
+  sought : {answer : Answer} (verdict : AssertVerdict) → IsJudged spec order lemmas SPLIT_LIMIT a verdict → is_proved verdict ≡ false → IsBreak spec a.two a.cond most answer
+      → IsAnswerTo spec order lemmas most a answer
+
+-- each is the answer of its assertion
+abbrev pub AreAnswers : Data → List ℕ → List Lemma → ℕ → List Assertion → List Answer → Type 0
+AreAnswers spec order lemmas most [] [] = Unit {0}
+AreAnswers spec order lemmas most [] (answer ∷ answers) = ⊥
+AreAnswers spec order lemmas most (a ∷ assertions) [] = ⊥
+AreAnswers spec order lemmas most (a ∷ assertions) (answer ∷ answers) = IsAnswerTo spec order lemmas most a answer × AreAnswers spec order lemmas most assertions answers
+
+-- the lines on each of these assertions, what is derived for each class taken for granted
 pub record ReachesEach (most : ℕ) (spec : Data) (assertions : List Assertion) (bytes : List ℕ) (status : Status) : Type 0 where
+  pub order : List ℕ
+  pub ordered : IsOrder (graph_of spec) order
+  pub lemmas : List Lemma
+  pub derived : AreDerivedLemmas spec order SPLIT_LIMIT lemmas
   pub answers : List Answer
-  pub searched : AreAnswers spec most assertions answers
+  pub searched : AreAnswers spec order lemmas most assertions answers
   pub text : bytes ≡ answers_text spec assertions answers
   pub ending : status ≡ answers_status answers
 

@@ -4,13 +4,15 @@ ghost use Rattle.std.specs.List.{list_any, list_all};
 ghost use Rattle.scr_spec.specs.Shown.{data_of};
 ghost use Rattle.scr_spec.specs.Over.{is_cond_over};
 ghost use Rattle.cmd_work.specs.Ends.{is_own};
-ghost use Rattle.run_broken.specs.Breaks.{IsBreak};
+ghost use Rattle.prove_asserts.specs.Claims.{AreLemmasOver};
 ghost use Rattle.cmd_reach.specs.Reaches as reaches;
 
 use crate::reading::{Reading, read};
 use crate::text::push_answers;
 use base::NoMemory;
 use cmd_work::Status;
+use dd_store::SPLIT_LIMIT;
+use prove_asserts::{AssertVerdict, Lemma, derive_lemmas, judge_assertion};
 use run_broken::seek_break;
 use run_reach::Answer;
 use scr_depend::Checked;
@@ -62,17 +64,33 @@ fn answers_status(answers: &[Answer]) -> Status
     }
 }
 
-/// Searches for a script that breaks the assertion.
+fn is_proved(verdict: &AssertVerdict) -> bool
+    ensures { result ≡ reaches.is_proved verdict.now }
+{
+    match verdict {
+        AssertVerdict::Yes => true,
+        AssertVerdict::FalseInitial | AssertVerdict::Unproved(_) | AssertVerdict::Undecided =>
+            false,
+    }
+}
+
+/// Searches for a script that breaks the assertion, where that is not proved.
 fn search_one(
     alloc: Global,
     checked: &Checked,
+    lemmas: &[Lemma],
     assertion: &Assertion,
     most: usize,
 ) -> Result<Answer, NoMemory>
+    requires lemmas { AreLemmasOver (data_of checked.now.spec) lemmas.now }
     requires over { IsTrue (is_cond_over (data_of checked.now.spec) assertion.now.cond) }
     requires some { 0 < most }
-    ensures { IfOk result (IsBreak (data_of checked.now.spec) assertion.now.two assertion.now.cond most) }
+    ensures { IfOk result (reaches.IsAnswerTo (data_of checked.now.spec) checked.now.order.list lemmas.now most assertion.now) }
 {
+    let verdict = judge_assertion(alloc, checked, lemmas, assertion, SPLIT_LIMIT)?;
+    if is_proved(&verdict) {
+        return Ok(Answer::Never);
+    }
     seek_break(alloc, checked, &assertion.cond, assertion.two, most)
 }
 
@@ -80,21 +98,23 @@ fn search_one(
 fn search_each(
     alloc: Global,
     checked: &Checked,
+    lemmas: &[Lemma],
     assertions: &[Assertion],
     most: usize,
 ) -> Result<Items<Answer>, NoMemory>
+    requires lemmas { AreLemmasOver (data_of checked.now.spec) lemmas.now }
     requires over { IsTrue (list_all (λ a. is_cond_over (data_of checked.now.spec) a.cond) assertions.now) }
     requires some { 0 < most }
-    ensures { IfOk result (reaches.AreAnswers (data_of checked.now.spec) most assertions.now) }
+    ensures { IfOk result (reaches.AreAnswers (data_of checked.now.spec) checked.now.order.list lemmas.now most assertions.now) }
 {
     let mut answers = Items::new(alloc);
     for assertion in assertions {
-        answers.push(search_one(alloc, checked, assertion, most)?)?;
+        answers.push(search_one(alloc, checked, lemmas, assertion, most)?)?;
     }
     Ok(answers)
 }
 
-/// What a search for each of the assertions finds.
+/// What is answered of each of the assertions, what is derived for each class taken for granted.
 fn reach(
     alloc: Global,
     checked: &Checked,
@@ -106,7 +126,8 @@ fn reach(
     ensures exact { IfOk result (λ r. reaches.ReachesEach most (data_of checked.now.spec) assertions.now r.0.items r.1) }
     ensures own { IfOk result (λ r. IsTrue (is_own r.1)) }
 {
-    let answers = search_each(alloc, checked, assertions, most)?;
+    let lemmas = derive_lemmas(alloc, checked, SPLIT_LIMIT)?;
+    let answers = search_each(alloc, checked, lemmas.as_slice(), assertions, most)?;
     let answers = answers.as_slice();
     let mut out = Vec::new(alloc);
     push_answers(&mut out, checked.spec(), assertions, answers)?;
