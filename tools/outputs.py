@@ -5,8 +5,8 @@ import json
 import os
 import urllib.parse
 from typing import Any, Callable, Dict, Iterable, Iterator, List
-from xml.etree import ElementTree
 
+import junit
 from findings import Finding, Place, Report, worst
 from language import printable
 
@@ -138,22 +138,12 @@ def sarif(reports: List[Report]) -> Iterator[str]:
     yield json.dumps({"$schema": SCHEMA, "version": "2.1.0", "runs": [run]}, indent=2)
 
 
-def junit(reports: List[Report]) -> Iterator[str]:
+def as_junit(reports: List[Report]) -> Iterator[str]:
     """JUnit's XML: a suite for each text, and a case for each table, class, assertion and script."""
-    suites = ElementTree.Element("testsuites")
-    for report in reports:
-        suite = ElementTree.SubElement(suites, "testsuite", name=printable(report.path))
-        cases = suite_cases(report, suite)
-        suite.set("tests", str(len(cases)))
-        suite.set("failures", str(sum(it.find("failure") is not None for it in cases)))
-        suite.set("errors", str(sum(it.find("error") is not None for it in cases)))
-    for count in ("tests", "failures", "errors"):
-        suites.set(count, str(sum(int(it.get(count, "0")) for it in suites)))
-    yield "<?xml version=\"1.0\" encoding=\"UTF-8\"?>"
-    yield ElementTree.tostring(suites, encoding="unicode")
+    yield junit.document([junit.Suite(it.path, suite_cases(it)) for it in reports]).rstrip("\n")
 
 
-def suite_cases(report: Report, suite: ElementTree.Element) -> List[ElementTree.Element]:
+def suite_cases(report: Report) -> List[junit.Result]:
     """The cases of a text, each with the findings that are about it."""
     cases = []
     left = list(report.findings)
@@ -161,9 +151,9 @@ def suite_cases(report: Report, suite: ElementTree.Element) -> List[ElementTree.
         mine = [it for it in left if is_about(it, what, name)]
         taken = set(map(id, mine))
         left = [it for it in left if id(it) not in taken]
-        cases.append(suite_case(report, suite, f"{what} {name}".strip(), mine))
+        cases.append(suite_case(report, f"{what} {name}".strip(), mine))
     if left:
-        cases.append(suite_case(report, suite, "text", left))
+        cases.append(suite_case(report, "text", left))
     return cases
 
 
@@ -177,20 +167,17 @@ def is_about(finding: Finding, what: str, name: str) -> bool:
     return finding.name == name and finding.kind in of.get(what, ("false", "unproved", "undecided"))
 
 
-def suite_case(report: Report, suite: ElementTree.Element, name: str, findings: List[Finding]) -> ElementTree.Element:
-    """A case: failed by an error, in error where it is undecided, and else with its notes as output."""
-    case = ElementTree.SubElement(suite, "testcase", classname=printable(report.path), name=name)
+def suite_case(report: Report, name: str, findings: List[Finding]) -> junit.Result:
+    """A case: failed by an error, in error where it is undecided, and else with its notes."""
     fails = [it for it in findings if it.level == "error"]
-    stays = [it for it in findings if it.level == "warning"]
-    notes = [it for it in findings if it.level == "note"]
-    for tag, found in (("failure", fails), ("error", stays)):
-        if found:
-            told = ElementTree.SubElement(case, tag, message=message_of(found[0]), type=rule_of(found[0]))
-            told.text = "\n".join(lines_about(found))
-            break
-    if notes:
-        ElementTree.SubElement(case, "system-out").text = "\n".join(lines_about(notes))
-    return case
+    found = fails or [it for it in findings if it.level == "warning"]
+    notes = list(lines_about(it for it in findings if it.level == "note"))
+    if not found:
+        return junit.Result(name, report.path, 0, [], notes=notes)
+    return junit.Result(
+        name, report.path, 0, list(lines_about(found)), message_of(found[0]), rule_of(found[0]),
+        not fails, notes,
+    )
 
 
 def lines_about(findings: Iterable[Finding]) -> Iterator[str]:
@@ -223,5 +210,5 @@ def in_property(told: str) -> str:
 
 
 FORMATS: Dict[str, Callable[[List[Report]], Iterator[str]]] = {
-    "text": text, "json": as_json, "sarif": sarif, "junit": junit, "github": github,
+    "text": text, "json": as_json, "sarif": sarif, "junit": as_junit, "github": github,
 }
